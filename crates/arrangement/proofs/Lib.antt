@@ -1,0 +1,10 @@
+-- What is shown of the arrangement, each file on those before it.
+pub mod Cycle
+pub mod Beats
+pub mod Local
+pub mod Walk
+pub mod First
+pub mod Outside
+pub mod Store
+pub mod Remove
+pub mod Change
