@@ -8,3 +8,10 @@ pub mod Outside
 pub mod Store
 pub mod Remove
 pub mod Change
+pub mod Records
+pub mod Unique
+pub mod Bounds
+pub mod Accepted
+pub mod Changed
+pub mod Afresh
+pub mod Examples

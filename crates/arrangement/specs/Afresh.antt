@@ -1,7 +1,7 @@
 -- The arrangement worked out afresh from the records: each is stored in turn into a cleared table. Assumes nothing.
 use Prim.Native.Nat.{ℕ}
 use mathlib.Core.List.{List, [], _∷_}
-use Rattle.arrangement.specs.Table.{Cell, Table, Record, empty}
+use Rattle.arrangement.specs.Table.{Table, Record, empty}
 use Rattle.arrangement.specs.Proper.{Space}
 use Rattle.arrangement.specs.Walk.{End, found, absent, endless, walk}
 use Rattle.arrangement.specs.Changes.{First, after, none, firstEmpty, stored}

@@ -1,9 +1,9 @@
 -- The same over buckets of b slots: linear probing over m buckets, of which document 01's slots are the case b = 1. Assumes nothing.
-use Prim.Native.Nat.{ℕ, _+_, _*_, _-_, _≤_, _<_}
+use Prim.Native.Nat.{ℕ, _+_, _*_, _≤_, _<_}
 use mathlib.Core.Path.{_≡_}
 use mathlib.Core.List.{List}
 use lib.ListN.{length}
-use Rattle.arrangement.specs.Table.{Cell, Table, Record, recordOf, Among, Distinct}
+use Rattle.arrangement.specs.Table.{Cell, Table, Record, recordOf, Among, Distinct, empty}
 use Rattle.arrangement.specs.Proper.{Space, slotAt, Beats}
 
 -- what stands in each place of each bucket
@@ -45,6 +45,10 @@ pub record ProperBuckets (s : Space) (b : ℕ) (rs : List Record) (t : Buckets) 
 -- inside a bucket: larger counts first, then smaller identifiers, empty slots last
 abbrev pub InOrder : Space → ℕ → Buckets → Type 0
 InOrder s b t = (j q : ℕ) → Place s b j (q + 1) → 0 < t j (q + 1) .count → Beats (t j q .count) (t j q .identifier) (t j (q + 1) .count) (t j (q + 1) .identifier)
+
+-- the two words of every empty place are 0
+abbrev pub CleanPlaces : Space → ℕ → Buckets → Type 0
+CleanPlaces s b t = (j q : ℕ) → Place s b j q → t j q .count ≡ 0 → t j q ≡ empty
 
 -- slots are buckets of one place
 abbrev pub oneEach : Table → Buckets

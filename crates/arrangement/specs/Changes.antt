@@ -1,6 +1,6 @@
 -- The changes, as document 01 says them: what each slot holds after a store, a remove, a change. Assumes nothing.
 use Prim.Native.Nat.{ℕ, zero, suc, _+_, _-_, _%_}
-use mathlib.Core.Bool.{Bool, true, false, cond, _&&_, _||_, not}
+use mathlib.Core.Bool.{Bool, false, cond, _||_}
 use lib.Dec.{eqb, ltb, leb}
 use Rattle.arrangement.specs.Table.{Cell, Table, empty, onward, rank}
 

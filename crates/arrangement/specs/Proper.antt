@@ -3,7 +3,7 @@ use Prim.Native.Nat.{ℕ, suc, _+_, _-_, _%_, _≤_, _<_}
 use mathlib.Core.Path.{_≡_}
 use mathlib.Core.List.{List}
 use lib.ListN.{length}
-use Rattle.arrangement.specs.Table.{Cell, Table, Occupied, Record, recordOf, Among, Distinct, empty}
+use Rattle.arrangement.specs.Table.{Table, Occupied, Record, recordOf, Among, Distinct, empty}
 
 -- m slots and a home among them for every identifier
 pub record Space : Type 0 where

@@ -1,8 +1,9 @@
 -- A table, its slots in a circle, and the records that stand in it. Assumes nothing.
 use Prim.Native.Nat.{ℕ, zero, suc, _+_, _-_, _%_, _<_}
 use mathlib.Core.Path.{_≡_}
-use mathlib.Core.Bool.{Bool, true, false, cond}
+use mathlib.Core.Bool.{cond}
 use mathlib.Core.List.{List, [], _∷_, List·Memᴰ}
+use mathlib.Core.Logic.{_↔_}
 use lib.Dec.{eqb}
 
 -- what stands in a slot: a count of 0 marks an empty slot, any other is the record's probe count
@@ -61,3 +62,21 @@ recordsFrom t i (suc n) = let rest = recordsFrom t (suc i) n in cond (eqb (t i .
 -- the records of a table of m slots
 unfoldable pub recordsOf : ℕ → Table → List Record
 recordsOf m t = recordsFrom t 0 m
+
+-- how many of n slots from slot i on are occupied
+unfoldable pub occupiedFrom : Table → ℕ → ℕ → ℕ
+occupiedFrom t i zero = 0
+occupiedFrom t i (suc n) = let rest = occupiedFrom t (suc i) n in cond (eqb (t i .count) 0) rest (suc rest)
+
+-- the number of occupied slots of a table of m slots
+unfoldable pub occupied : ℕ → Table → ℕ
+occupied m t = occupiedFrom t 0 m
+
+-- the records with another identifier than x
+unfoldable pub without : ℕ → List Record → List Record
+without x [] = []
+without x (r ∷ rs) = let rest = without x rs in cond (eqb (r .identifier) x) rest (r ∷ rest)
+
+-- the same records, in any order
+abbrev pub SameRecords : List Record → List Record → Type 0
+SameRecords rs qs = (r : Record) → Among r rs ↔ Among r qs

@@ -1,6 +1,6 @@
 -- The walk, as document 01 says it, for the home h of x over a table of m slots. Assumes nothing.
 use Prim.Native.Nat.{ℕ, zero, suc}
-use mathlib.Core.Bool.{Bool, true, false, cond, _&&_, _||_}
+use mathlib.Core.Bool.{cond, _&&_, _||_}
 use lib.Dec.{eqb, ltb}
 use Rattle.arrangement.specs.Table.{Cell, Table}
 use Rattle.arrangement.specs.Proper.{slotAt}
