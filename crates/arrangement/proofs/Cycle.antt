@@ -192,3 +192,26 @@ rank-before {m} {s} h = go (ℕ-discrete (suc (rank m s (prior m s))) m) (rank-i
 -- every slot is reached from a home within m
 pub slot-reach : {m h f : ℕ} → h < m → f < m → slotAt m h (suc (rank m h f)) ≡ f
 slot-reach {m} {h} {f} l k = slot-suc m h (rank m h f) ∙ onward-rank l k
+
+-- rank without a remainder: i lies ahead of s, or behind it and around the end
+pub rank-ahead : {m s i : ℕ} → s ≤ i → i < m → rank m s i ≡ i - s
+rank-ahead {m} {s} {i} h l = go (turned (omega arith))
+  where
+    go : Turned m (i + (m - s)) → rank m s i ≡ i - s
+    go (within k e) = omega arith
+    go (around k e b) = omega arith
+
+pub rank-behind : {m s i : ℕ} → i < s → s < m → rank m s i ≡ i + m - s
+rank-behind {m} {s} {i} h l = go (turned (omega arith))
+  where
+    go : Turned m (i + (m - s)) → rank m s i ≡ i + m - s
+    go (within k e) = omega arith
+    go (around k e b) = omega arith
+
+-- a remainder of a number one turn past
+pub around-past : {m a : ℕ} → m ≤ a → a < m + m → a % m ≡ a - m
+around-past {m} {a} h l = go (turned l)
+  where
+    go : Turned m a → a % m ≡ a - m
+    go (within k e) = absurd (omega arith)
+    go (around k e b) = omega arith
