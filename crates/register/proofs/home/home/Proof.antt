@@ -1,6 +1,7 @@
 -- `home::home` meets its contract: the remainder of `number` by the slot count is the home, and lies below it.
 -- Assumes nothing.
-use Prim.Native.Nat.{_<_}
+use Prim.Native.Nat.{ℕ, _%_, _<_}
+use mathlib.Core.Path.{ap, _∙_}
 use native.Mathlib.Nat.{mod-lt}
 use native.Mathlib.Omega.{arith}
 use borrow.Author.Needs.{needs}
@@ -11,14 +12,16 @@ use Rattle.register.proofs.home.home.Tie as tie
 number-requires : tie.Need-number-requires
 number-requires c κs = search needs
 
-rem-result : tie.Need-rem-result
-rem-result c = search needs
+remainder-requires : tie.Need-remainder-requires
+remainder-requires c κs = search needs
 
 returns : tie.Need-returns
 unfolding homeOf
 returns c =
-    let some : 0 < c .before .args .head .slots = omega arith in
-    (rw (c .number .ensures), mod-lt _ some)
+    let some : 0 < c .before .before .args .head .slots = omega arith in
+    let m = c .before .before .args .head .slots in
+    let e = c .remainder .ensures ∙ ap (λ (n : ℕ). n % m) (c .before .number .ensures) in
+    (e, rw e (mod-lt _ some))
 
 pub home-spec : {M : Type 1} → statement M
-home-spec = tie.close (tie.spec number-requires rem-result returns)
+home-spec = tie.close (tie.spec number-requires remainder-requires returns)
