@@ -11,7 +11,7 @@ use Rattle.register.specs.Head.{goodHead}
 abbrev pub answerOf : ℕ → ℕ → ℕ → ℕ → ℕ → Head → Answer
 answerOf number slot entry probes moved head = record { number = number; slot = slot; entry = entry; probes = probes; moved = moved; head = head }
 
--- a refusal with zeros; it returns the given head
+-- zeros beside the number: every refusal, and what clear and check answer when done; it returns the given head
 abbrev pub refusal : ℕ → Head → Answer
 refusal number head = answerOf number 0 0 0 0 head
 

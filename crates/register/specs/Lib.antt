@@ -1,9 +1,6 @@
 -- What a reader must believe of the register, in document order.
 pub mod Head
 pub mod Slices
-pub mod Private
-pub mod Runs
-pub mod Shifts
 pub mod Homes
 pub mod Answers
 pub mod Find
@@ -13,3 +10,7 @@ pub mod Change
 pub mod Clear
 pub mod Check
 pub mod Census
+-- What the contracts of private helpers cite; a reader of the calls may pass it over.
+pub mod Private
+pub mod Runs
+pub mod Shifts

@@ -23,7 +23,7 @@ pub struct Census {
 }
 
 impl Answer {
-    // A refusal: zeros, and the given head.
+    // Zeros beside the number, and the given head: every refusal, and clear and check when done.
     pub fn refused(number: u8, head: Head) -> Self
         ensures { λ r. ⌜ r ≡ refusal number head ⌝ }
     {
