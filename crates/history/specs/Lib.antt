@@ -1,0 +1,10 @@
+-- What a reader must believe of the three demands, in document order.
+pub mod Map
+pub mod Moved
+pub mod Mapped
+pub mod Writes
+pub mod Numbers
+pub mod Calls
+pub mod Live
+pub mod Marked
+pub mod Tight
