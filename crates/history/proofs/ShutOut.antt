@@ -16,7 +16,8 @@ use Rattle.register.specs.Remove.{removeOf}
 use Rattle.register.specs.Check.{slotGood, slotsGood, accepts}
 use Rattle.history.specs.Map.{Found, live, missing, lookup}
 use Rattle.history.specs.Calls.{Call, clear, store, remove, State}
-use Rattle.history.specs.Live.{insert, afterLive, runLive, History, liveIn, Kept}
+use Rattle.history.specs.Turned.{twoSlots, TurnedAway}
+use Rattle.history.specs.Live.{insert, afterLive, runLive, Kept}
 use Rattle.history.specs.Mapped.{Accepted, theMap, Untouched, Version, Mapped}
 use Rattle.history.proofs.Mapped.{mapped}
 
@@ -107,36 +108,24 @@ module _ (W : Version) (M : Mapped W) where
       let l = b .reach other in
       (cc, cc)
 
--- a history of two slots of junk, cleared under rule 0
-abbrev two : List Call → History
-two calls =
-    record {
-      before = record { head = headOf 0 0 0 0; words = 9 ∷ 9 ∷ 9 ∷ 9 ∷ []; counts = 9 ∷ 9 ∷ [] };
-      slots = 2;
-      rule = 0;
-      salt = 0;
-      calls = calls;
-      valid = unfold goodHead in refl;
-    }
-
 -- one that works on the first call and pretends afterwards
 pub pretends-afterwards : (runs : List Call → State → State) → Kept runs → ((c : Call) (cs : List Call) (s : State) → runs (c ∷ cs) s ≡ runs (c ∷ []) s) → ⊥
 unfolding runLive afterLive lookup insert
 pretends-afterwards runs K pretends =
-    let a = K (two (store 5 7 ∷ [])) .head in
-    let b = K (two []) .head in
-    let e = ap (λ (s : State). s .head .live) (pretends (clear 2 0 0) (store 5 7 ∷ []) (two [] .before)) in
+    let a = K (twoSlots (store 5 7 ∷ [])) .head in
+    let b = K (twoSlots []) .head in
+    let e = ap (λ (s : State). s .head .live) (pretends (clear 2 0 0) (store 5 7 ∷ []) (twoSlots [] .before)) in
     omega (arith, ap (λ (h : Head). h .live) a, ap (λ (h : Head). h .live) b)
 
 -- one that does nothing, by the live records
 pub does-nothing-ever : (runs : List Call → State → State) → Kept runs → ((cs : List Call) (s : State) → runs cs s ≡ s) → ⊥
 unfolding runLive
 does-nothing-ever runs K idle =
-    let a = ap (λ (h : Head). h .slots) (K (two []) .head) in
-    let e = ap (λ (s : State). s .head .slots) (idle (clear 2 0 0 ∷ []) (two [] .before)) in
+    let a = ap (λ (h : Head). h .slots) (K (twoSlots []) .head) in
+    let e = ap (λ (s : State). s .head .slots) (idle (clear 2 0 0 ∷ []) (twoSlots [] .before)) in
     omega arith
 
--- "as though never stored" is over the live records, not the history: 5 filled the last place and turned 4 away
-pub turned-away : (liveIn (two (store 5 7 ∷ store 4 6 ∷ remove 5 ∷ [])) .records ≡ []) × (liveIn (two (store 4 6 ∷ [])) .records ≡ record { identifier = 4; entry = 6 } ∷ [])
+-- "as though never stored" is over the live records, not the history
+pub turned-away : TurnedAway
 unfolding runLive afterLive lookup insert without
 turned-away = (refl, refl)

@@ -6,5 +6,6 @@ pub mod Writes
 pub mod Numbers
 pub mod Calls
 pub mod Live
+pub mod Turned
 pub mod Marked
 pub mod Tight
