@@ -139,8 +139,7 @@ impl<'a> Register<'a> {
     /// Takes a record out; those behind it move back. Refuses with 1, 2 and 6.
     #[inline]
     pub fn remove(&mut self, identifier: u64) -> Result<Remove, Refusal> {
-        let Answer { number, slot, entry, probes, moved, head } =
-            calls::remove(self.head, self.words, self.counts, identifier);
+        let Answer { number, slot, entry, probes, moved, head } = calls::remove(self.head, self.words, self.counts, identifier);
         self.head = head;
         match number {
             0 => Ok(Remove::Removed { slot, entry, probes, moved }),
@@ -152,8 +151,7 @@ impl<'a> Register<'a> {
     /// Gives a live identifier a new entry. Refuses with 1, 2 and 6.
     #[inline]
     pub fn change(&mut self, identifier: u64, entry: u64) -> Result<Change, Refusal> {
-        let Answer { number, slot, entry, probes, .. } =
-            calls::change(self.head, self.words, self.counts, identifier, entry);
+        let Answer { number, slot, entry, probes, .. } = calls::change(self.head, self.words, self.counts, identifier, entry);
         match number {
             0 => Ok(Change::Changed { slot, entry, probes }),
             5 => Ok(Change::Absent { probes }),

@@ -103,9 +103,7 @@ fn a_register_taken_up_again() -> Result<(), Refusal> {
 
 #[test]
 fn refusals_have_the_numbers_and_say_what_they_are() {
-    for (refusal, number) in
-        [(Refusal::BadHead, 1), (Refusal::BadLength, 2), (Refusal::Full, 4), (Refusal::Damaged, 6)]
-    {
+    for (refusal, number) in [(Refusal::BadHead, 1), (Refusal::BadLength, 2), (Refusal::Full, 4), (Refusal::Damaged, 6)] {
         assert_eq!(refusal.number(), number);
         assert!(refusal.to_string().starts_with(&format!("{number}: ")));
     }
@@ -115,5 +113,8 @@ fn refusals_have_the_numbers_and_say_what_they_are() {
 fn the_hash() {
     assert_eq!(hash_bytes(b""), 0xcbf2_9ce4_8422_2325);
     assert_eq!(hash_bytes(b"foobar"), 0x8594_4171_f739_67e8);
-    assert_eq!(hash_key(0x0807_0605_0403_0201, 0x100f_0e0d_0c0b_0a09), hash_bytes(&[1, 2, 3, 4, 5, 6, 7, 8, 9, 10, 11, 12, 13, 14, 15, 16]));
+    assert_eq!(
+        hash_key(0x0807_0605_0403_0201, 0x100f_0e0d_0c0b_0a09),
+        hash_bytes(&[1, 2, 3, 4, 5, 6, 7, 8, 9, 10, 11, 12, 13, 14, 15, 16])
+    );
 }

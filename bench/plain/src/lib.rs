@@ -1,5 +1,6 @@
 //! The register's rules in plain Rust, unproved: what the proved register's speed is measured against.
-//! Written as an engineer would: safe Rust, bounds checks left to the compiler, runs moved with `copy_within` where they are contiguous.
+//! Written as an engineer would: safe Rust, bounds checks left to the compiler, the contiguous parts of a run moved with `copy_within`.
+//! The calls are not inlined into their callers, as those of a built library are not.
 
 /// Slot count, salt, live count, home rule.
 #[derive(Clone, Copy, Debug, PartialEq, Eq)]
@@ -55,23 +56,17 @@ pub fn hash_key(salt: u64, id: u64) -> u64 {
     h
 }
 
-/// A head and two borrowed slices.
+/// A head and two borrowed slices. With `MASKED`, a home under a power of two is found by a mask and not by a division.
 #[derive(Debug)]
-pub struct Register<'a> {
+pub struct Register<'a, const MASKED: bool> {
     head: Head,
     words: &'a mut [u64],
     counts: &'a mut [u16],
 }
 
-impl<'a> Register<'a> {
+impl<'a, const MASKED: bool> Register<'a, MASKED> {
     #[inline(never)]
-    pub fn clear(
-        slots: usize,
-        rule: u8,
-        salt: u64,
-        words: &'a mut [u64],
-        counts: &'a mut [u16],
-    ) -> Result<Self, Refusal> {
+    pub fn clear(slots: usize, rule: u8, salt: u64, words: &'a mut [u64], counts: &'a mut [u16]) -> Result<Self, Refusal> {
         let head = Head { slots, salt, live: 0, rule };
         let register = Register { head, words, counts };
         register.open()?;
@@ -98,9 +93,7 @@ impl<'a> Register<'a> {
     pub fn store(&mut self, x: u64, entry: u64) -> Result<Done, Refusal> {
         self.open()?;
         let (s, p) = match self.walk(x) {
-            End::Found(slot, probes) => {
-                return Err(Refusal::AlreadyNamed(self.done(slot, probes, 0)))
-            }
+            End::Found(slot, probes) => return Err(Refusal::AlreadyNamed(self.done(slot, probes, 0))),
             End::Endless => return Err(Refusal::Damaged),
             End::Absent(s, p) => (s, p),
         };
@@ -203,7 +196,12 @@ impl<'a> Register<'a> {
 
     fn home(&self, x: u64) -> usize {
         let number = if self.head.rule == 0 { x } else { hash_key(self.head.salt, x) };
-        (number % self.head.slots as u64) as usize
+        let m = self.head.slots as u64;
+        if MASKED && m.is_power_of_two() {
+            (number & (m - 1)) as usize
+        } else {
+            (number % m) as usize
+        }
     }
 
     fn next(&self, i: usize) -> usize {

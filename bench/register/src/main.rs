@@ -21,7 +21,12 @@ fn main() -> std::io::Result<()> {
         .collect();
     let (mut cases, mut probes) = (Vec::new(), Vec::new());
     for (i, (slots, rule, load)) in settings.iter().enumerate() {
-        eprintln!("bench: {} of {}: M {slots}, rule {rule}, load {load}: {} s so far", i + 1, settings.len(), start.elapsed().as_secs());
+        eprintln!(
+            "bench: {} of {}: M {slots}, rule {rule}, load {load}: {} s so far",
+            i + 1,
+            settings.len(),
+            start.elapsed().as_secs()
+        );
         cases.push(speed::case(*slots, *rule, *load));
         probes.push(probes::case(*slots, *rule, *load));
     }
@@ -35,6 +40,10 @@ fn main() -> std::io::Result<()> {
     fs::write(folder.join("register.md"), &text)?;
     fs::write(folder.join("register.svg"), picture::svg(&cases))?;
     print!("{text}");
-    eprintln!("bench: {} s; the table is in {1}/register.md, the picture in {1}/register.svg", start.elapsed().as_secs(), folder.display());
+    eprintln!(
+        "bench: {} s; the table is in {1}/register.md, the picture in {1}/register.svg",
+        start.elapsed().as_secs(),
+        folder.display()
+    );
     Ok(())
 }

@@ -3,7 +3,7 @@
 use crate::speed::{Case, WORKS};
 use std::fmt::Write;
 
-const COLOURS: [&str; 5] = ["#c0392b", "#2c3e50", "#2980b9", "#27ae60", "#8e44ad"];
+const COLOURS: [&str; 6] = ["#c0392b", "#2c3e50", "#95a5a6", "#2980b9", "#27ae60", "#8e44ad"];
 const LOADS: [f64; 4] = [0.5, 0.8, 0.9, 0.95];
 const PANEL: (f64, f64) = (210.0, 150.0);
 const STEP: (f64, f64) = (265.0, 205.0);
@@ -19,7 +19,8 @@ fn panel(text: &mut String, cases: &[&Case], work: usize, x: f64, y: f64) {
     let shown = cases.iter().flat_map(|case| case.lines.iter().filter_map(|line| line.times[work]));
     let most = top(shown.fold(1.0, f64::max));
     let case = cases[0];
-    let _ = writeln!(text, "<text x='{x}' y='{}' class='head'>{}, M {}, rule {}</text>", y - 8.0, WORKS[work], case.slots, case.rule);
+    let _ =
+        writeln!(text, "<text x='{x}' y='{}' class='head'>{}, M {}, rule {}</text>", y - 8.0, WORKS[work], case.slots, case.rule);
     let _ = writeln!(text, "<rect x='{x}' y='{y}' width='{w}' height='{h}' fill='none' stroke='#999'/>");
     for part in [0.0, 0.5, 1.0] {
         let at = y + h * (1.0 - part);
@@ -35,10 +36,15 @@ fn panel(text: &mut String, cases: &[&Case], work: usize, x: f64, y: f64) {
         let points: Vec<(f64, f64)> = (0..cases.len()).filter_map(place).collect();
         let line: Vec<String> = points.iter().map(|(a, b)| format!("{a:.1},{b:.1}")).collect();
         let width = if t == 0 { 2.5 } else { 1.3 };
-        let _ = writeln!(text, "<polyline points='{}' fill='none' stroke='{}' stroke-width='{width}'/>", line.join(" "), COLOURS[t % 5]);
+        let _ = writeln!(
+            text,
+            "<polyline points='{}' fill='none' stroke='{}' stroke-width='{width}'/>",
+            line.join(" "),
+            COLOURS[t % 6]
+        );
         for (i, (a, b)) in points.iter().enumerate() {
-            let inside = if cases[i].lines[t].grown { "#fff" } else { COLOURS[t % 5] };
-            let _ = writeln!(text, "<circle cx='{a:.1}' cy='{b:.1}' r='3' fill='{inside}' stroke='{}'/>", COLOURS[t % 5]);
+            let inside = if cases[i].lines[t].grown { "#fff" } else { COLOURS[t % 6] };
+            let _ = writeln!(text, "<circle cx='{a:.1}' cy='{b:.1}' r='3' fill='{inside}' stroke='{}'/>", COLOURS[t % 6]);
         }
     }
 }
@@ -46,16 +52,17 @@ fn panel(text: &mut String, cases: &[&Case], work: usize, x: f64, y: f64) {
 /// Find, store and remove; both sizes and both rules.
 pub fn svg(cases: &[Case]) -> String {
     let settings = [(2_048, 0), (2_048, 1), (32_768, 0), (32_768, 1)];
-    let (width, height) = (60.0 + 4.0 * STEP.0, 90.0 + 4.0 * STEP.1);
-    let mut text = format!("<svg xmlns='http://www.w3.org/2000/svg' width='{width}' height='{height}' viewBox='0 0 {width} {height}'>\n");
+    let (width, height) = (60.0 + 4.0 * STEP.0, 85.0 + 4.0 * STEP.1);
+    let mut text =
+        format!("<svg xmlns='http://www.w3.org/2000/svg' width='{width}' height='{height}' viewBox='0 0 {width} {height}'>\n");
     text.push_str("<style>text{font-family:sans-serif;fill:#222}.head{font-size:13px;font-weight:bold}.axis{font-size:11px}.key{font-size:13px}</style>\n");
     text.push_str("<rect width='100%' height='100%' fill='#fff'/>\n");
     for (t, line) in cases[0].lines.iter().enumerate() {
-        let x = 60.0 + 150.0 * t as f64;
-        let _ = writeln!(text, "<line x1='{x}' y1='26' x2='{}' y2='26' stroke='{}' stroke-width='3'/>", x + 22.0, COLOURS[t % 5]);
+        let x = 60.0 + 160.0 * t as f64;
+        let _ = writeln!(text, "<line x1='{x}' y1='26' x2='{}' y2='26' stroke='{}' stroke-width='3'/>", x + 22.0, COLOURS[t % 6]);
         let _ = writeln!(text, "<text x='{}' y='31' class='key'>{}</text>", x + 28.0, line.table);
     }
-    text.push_str("<text x='820' y='31' class='key'>ns a call, over the load; hollow: more than M slots</text>\n");
+    let _ = writeln!(text, "<text x='60' y='{}' class='key'>Nanoseconds a call over the load. A hollow mark: the table holds its records in more than M slots.</text>", height - 14.0);
     for (column, (slots, rule)) in settings.iter().enumerate() {
         let here: Vec<&Case> = cases.iter().filter(|case| case.slots == *slots && case.rule == *rule).collect();
         for work in 0..4 {

@@ -61,5 +61,13 @@ pub fn case(slots: usize, rule: u8, load: f64) -> Probes {
     }
     let t = tables as f64;
     let (s, u, e) = expected(n as f64, slots as f64);
-    Probes { slots, rule, load, found: (found / t, s), absent: (absent / t, u), walked: walked / t, to_empty: (to_empty / stores, e) }
+    Probes {
+        slots,
+        rule,
+        load,
+        found: (found / t, s),
+        absent: (absent / t, u),
+        walked: walked / t,
+        to_empty: (to_empty / stores, e),
+    }
 }

@@ -29,38 +29,34 @@ pub fn ratio(case: &Case, work: usize, other: &str) -> Option<f64> {
 pub fn times(cases: &[Case]) -> String {
     let mut text = String::new();
     let names: Vec<&str> = cases[0].lines.iter().map(|line| line.table).collect();
-    let _ = writeln!(text, "| Work | M | Rule | Load | {} | ratio to plain Rust |", names.join(" | "));
-    let _ = writeln!(text, "|---|---|---|---|{}---|", "---|".repeat(names.len()));
+    let _ = writeln!(text, "| Work | M | Rule | Load | {} | to plain Rust | to plain, masked |", names.join(" | "));
+    let _ = writeln!(text, "|---|---|---|---|{}---|---|", "---|".repeat(names.len()));
     for (work, name) in WORKS.iter().enumerate() {
         for case in cases {
             let shown: Vec<String> = case.lines.iter().map(|line| time(line, work)).collect();
-            let against = ratio(case, work, "plain Rust").map_or("-".into(), |r| format!("{r:.2}"));
+            let against = |other| ratio(case, work, other).map_or("-".into(), |r| format!("{r:.2}"));
             let (m, rule, load) = (thousands(case.slots), case.rule, case.load);
-            let _ = writeln!(text, "| {name} | {m} | {rule} | {load} | {} | {against} |", shown.join(" | "));
+            let (plain, masked) = (against("plain Rust"), against("plain, masked"));
+            let _ = writeln!(text, "| {name} | {m} | {rule} | {load} | {} | {plain} | {masked} |", shown.join(" | "));
         }
     }
     text
 }
 
-/// The least and greatest ratio of each work, and where it is above a bound.
+/// The least and greatest ratio of each work to each table that stands in M slots, and in how many cases it is above a bound.
 pub fn targets(cases: &[Case]) -> String {
     let mut text = String::new();
-    let _ = writeln!(text, "| Work | against plain Rust | cases above 1.10 | against tsl::robin_map at M slots | cases ahead |");
-    let _ = writeln!(text, "|---|---|---|---|---|");
+    let _ =
+        writeln!(text, "| Work | to plain Rust | above 1.10 | to plain, masked | above 1.10 | to tsl::robin_map | above 1.00 |");
+    let _ = writeln!(text, "|---|---|---|---|---|---|---|");
     for (work, name) in WORKS.iter().enumerate() {
-        let plain: Vec<f64> = cases.iter().filter_map(|case| ratio(case, work, "plain Rust")).collect();
-        let same = |case: &&Case| case.lines.iter().any(|line| line.table == "tsl::robin_map" && !line.grown);
-        let robin: Vec<f64> = cases.iter().filter(same).filter_map(|case| ratio(case, work, "tsl::robin_map")).collect();
-        let above = plain.iter().filter(|r| **r > 1.105).count();
-        let ahead = robin.iter().filter(|r| **r < 1.0).count();
-        let _ = writeln!(
-            text,
-            "| {name} | {} | {above} of {} | {} | {} |",
-            span(&plain),
-            plain.len(),
-            span(&robin),
-            if robin.is_empty() { "-".into() } else { format!("{ahead} of {}", robin.len()) }
-        );
+        let column = |other: &str, bound: f64| {
+            let same = |case: &&Case| case.lines.iter().any(|line| line.table == other && !line.grown);
+            let ratios: Vec<f64> = cases.iter().filter(same).filter_map(|case| ratio(case, work, other)).collect();
+            format!("{} | {} of {}", span(&ratios), ratios.iter().filter(|r| **r >= bound + 0.005).count(), ratios.len())
+        };
+        let (plain, masked) = (column("plain Rust", 1.10), column("plain, masked", 1.10));
+        let _ = writeln!(text, "| {name} | {plain} | {masked} | {} |", column("tsl::robin_map", 1.0));
     }
     text
 }

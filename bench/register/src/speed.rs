@@ -73,7 +73,7 @@ fn whole_table(table: &dyn Table, slots: usize, times: &mut [Vec<f64>; 7]) {
 /// Measures every table at one load: half of a batch below it before a batch is stored, half above it after.
 pub fn case(slots: usize, rule: u8, load: f64) -> Case {
     let mut random = Random(0x5eed ^ (slots as u64) << 20 ^ u64::from(rule) << 8 ^ (load * 100.0) as u64);
-    let (batch, finds, rounds) = (slots / 64, slots / 8 + 256, 2_000_000 / slots + 140);
+    let (batch, finds, rounds) = (slots / 64, slots / 8 + 256, 3_000_000 / slots + 300);
     let settings = Settings { slots, rule, salt: random.word() };
     let live = random.words((slots as f64 * load) as usize - batch / 2);
     let mut tables = all(settings);

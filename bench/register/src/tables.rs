@@ -85,16 +85,16 @@ impl Table for Built {
 }
 
 /// The same rules in plain Rust.
-pub struct Plain(plain::Register<'static>);
+pub struct Plain<const MASKED: bool>(plain::Register<'static, MASKED>);
 
-impl Plain {
+impl<const MASKED: bool> Plain<MASKED> {
     pub fn new(s: Settings) -> Self {
         let (words, counts) = lent(s.slots);
         Plain(plain::Register::clear(s.slots, s.rule, s.salt, words, counts).expect("good settings"))
     }
 }
 
-impl Table for Plain {
+impl<const MASKED: bool> Table for Plain<MASKED> {
     fn find_all(&self, keys: &[u64]) -> u64 {
         keys.iter().fold(0_u64, |sum, x| {
             sum.wrapping_add(match self.0.find(*x) {
@@ -257,8 +257,11 @@ cpp_table!(Flat, flat_new, flat_free, flat_buckets, flat_find_all, flat_store_al
 /// The tables at hand, the built register and plain Rust first.
 pub fn all(s: Settings) -> Vec<(&'static str, Box<dyn Table>)> {
     #[allow(unused_mut)]
-    let mut tables: Vec<(&'static str, Box<dyn Table>)> =
-        vec![("register", Box::new(Built::new(s))), ("plain Rust", Box::new(Plain::new(s)))];
+    let mut tables: Vec<(&'static str, Box<dyn Table>)> = vec![
+        ("register", Box::new(Built::new(s))),
+        ("plain Rust", Box::new(Plain::<false>::new(s))),
+        ("plain, masked", Box::new(Plain::<true>::new(s))),
+    ];
     #[cfg(robin)]
     tables.push(("tsl::robin_map", Box::new(Robin::new(s))));
     #[cfg(flat)]

@@ -23,31 +23,47 @@ fn call(jobs: &mut Register<'_>, which: usize, x: u64, v: u64) -> Answer {
     match which {
         0 => {
             let result = jobs.find(x);
-            shown(result, |found| match found {
-                Find::Found { slot, entry, probes } => done(0, slot, entry, probes, 0),
-                Find::Absent { probes } => done(5, 0, 0, probes, 0),
-            }, jobs.head())
+            shown(
+                result,
+                |found| match found {
+                    Find::Found { slot, entry, probes } => done(0, slot, entry, probes, 0),
+                    Find::Absent { probes } => done(5, 0, 0, probes, 0),
+                },
+                jobs.head(),
+            )
         }
         1 => {
             let result = jobs.store(x, v);
-            shown(result, |stored| match stored {
-                Store::Stored { slot, entry, probes, moved } => done(0, slot, entry, probes, moved),
-                Store::AlreadyNamed { slot, entry, probes } => done(3, slot, entry, probes, 0),
-            }, jobs.head())
+            shown(
+                result,
+                |stored| match stored {
+                    Store::Stored { slot, entry, probes, moved } => done(0, slot, entry, probes, moved),
+                    Store::AlreadyNamed { slot, entry, probes } => done(3, slot, entry, probes, 0),
+                },
+                jobs.head(),
+            )
         }
         2 => {
             let result = jobs.remove(x);
-            shown(result, |removed| match removed {
-                Remove::Removed { slot, entry, probes, moved } => done(0, slot, entry, probes, moved),
-                Remove::Absent { probes } => done(5, 0, 0, probes, 0),
-            }, jobs.head())
+            shown(
+                result,
+                |removed| match removed {
+                    Remove::Removed { slot, entry, probes, moved } => done(0, slot, entry, probes, moved),
+                    Remove::Absent { probes } => done(5, 0, 0, probes, 0),
+                },
+                jobs.head(),
+            )
         }
         3 => {
             let result = jobs.change(x, v);
-            shown(result, |changed| match changed {
-                Change::Changed { slot, entry, probes } => done(0, slot, entry, probes, 0),
-                Change::Absent { probes } => done(5, 0, 0, probes, 0),
-            }, jobs.head())
+            shown(
+                result,
+                |changed| match changed {
+                    Change::Changed { slot, entry, probes } => done(0, slot, entry, probes, 0),
+                    Change::Absent { probes } => done(5, 0, 0, probes, 0),
+                },
+                jobs.head(),
+            )
         }
         _ => shown(jobs.check(), |()| done(0, 0, 0, 0, 0), jobs.head()),
     }
@@ -80,7 +96,9 @@ pub fn run(seed: u64, steps: usize) -> Result<usize, String> {
         let wanted = expected(head, &mut model_words, &mut model_counts, which, x, v);
         head = wanted.head;
         if given != wanted || (jobs.words(), jobs.counts()) != (&model_words[..], &model_counts[..]) {
-            return Err(format!("seed {seed}, step {step}, call {which} of {x}: the crate gives {given:?}, the model {wanted:?}"));
+            return Err(format!(
+                "seed {seed}, step {step}, call {which} of {x}: the crate gives {given:?}, the model {wanted:?}"
+            ));
         }
         let sums = calls::census(head, &model_words, &model_counts);
         let census = jobs.census().map_err(|refusal| refusal.to_string())?;

@@ -80,7 +80,7 @@ pub fn run(plan: Plan) -> Result<Pair, String> {
 impl History {
     fn step(&mut self, step: usize) -> Result<(), String> {
         let m = self.plan.slots;
-        if step % (2 * m + 16) == 0 {
+        if step.is_multiple_of(2 * m + 16) {
             self.target = self.random.pick(&[m - 1, m - 1, m, m * 19 / 20, m * 9 / 10, m / 2, 0]);
         }
         let rare = 64 + m / 4;
