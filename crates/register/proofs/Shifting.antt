@@ -11,7 +11,7 @@ use lib.Dec.{leb}
 use lib.ListN.{getD, set}
 use Rattle.arrangement.specs.Table.{Cell, Table, empty, onward, rank}
 use Rattle.arrangement.specs.Changes.{raised, lowered, prior, next, stored, removed, anyFar}
-use Rattle.arrangement.proofs.Cycle.{next-in, onward-in, onward-zero, onward-suc, onward-rank, prior-first, prior-inner, rank-onward, rank-zero, rank-same, rank-self, rank-ahead, rank-behind}
+use Rattle.arrangement.proofs.Cycle.{next-in, next-inner, next-last, onward-in, onward-rank, prior-first, prior-inner, rank-onward, rank-zero, rank-same, rank-self, rank-ahead, rank-behind}
 use Rattle.arrangement.proofs.Outside.{stored-new, stored-moved, stored-same, removed-moved, removed-last, removed-same}
 use Rattle.register.specs.Private.{Lent, Holds}
 use Rattle.register.specs.Shifts.{lifted, shiftedOn, shiftedBack, Liftable}
@@ -197,38 +197,79 @@ opens m s k c t h i l = go (ℕ-discrete i s) (decLe (rank m s i) k)
 pub back-none : (m s : ℕ) (t : Table) (i : ℕ) → t i ≡ shiftedBack m s 0 t i
 back-none m s t i = sym (back-still m s 0 t i (omega arith))
 
-pub back-step : (m s l : ℕ) (t : Table) → s < m → suc l < m → (i : ℕ) → i < m
-    → putAt (onward m s l) (lowered (shiftedBack m s l t (onward m s (suc l)))) (shiftedBack m s l t) i ≡ shiftedBack m s (suc l) t i
-back-step m s l t h o i k = go (ℕ-discrete i (onward m s l))
+pub back-step : (m s : ℕ) (t : Table) (j : ℕ) → s ≤ j → j + 1 < m → (i : ℕ) → i < m
+    → putAt j (lowered (shiftedBack m s (j - s) t (j + 1))) (shiftedBack m s (j - s) t) i ≡ shiftedBack m s (j + 1 - s) t i
+back-step m s t j h o i l = go (ℕ-discrete i j) (decLt i s)
   where
     u : Table
-    u = shiftedBack m s l t
+    u = shiftedBack m s (j - s) t
 
-    here : rank m s (onward m s l) ≡ l
-    here = rank-onward h (omega arith)
+    next-one : next m j ≡ j + 1
+    next-one = next-inner (omega arith) ∙ omega arith
 
-    there : rank m s (onward m s (suc l)) ≡ suc l
-    there = rank-onward h o
-
-    go : Dec (i ≡ onward m s l) → putAt (onward m s l) (lowered (u (onward m s (suc l)))) u i ≡ shiftedBack m s (suc l) t i
-    go (yes e) =
-        let r : rank m s i ≡ l = ap (rank m s) e ∙ here in
-        put-here (onward m s l) (lowered (u (onward m s (suc l)))) u e
-        ∙ ap lowered (back-still m s l t (onward m s (suc l)) (omega (arith, there)))
-        ∙ ap (λ (q : ℕ). lowered (t q)) (onward-suc m s l ∙ ap (next m) (sym e))
-        ∙ sym (back-moved m s (suc l) t i (omega arith))
-    go (no n) = put-other (onward m s l) (lowered (u (onward m s (suc l)))) u n ∙ side (decLt (rank m s i) l)
+    go : Dec (i ≡ j) → Dec (i < s) → putAt j (lowered (u (j + 1))) u i ≡ shiftedBack m s (j + 1 - s) t i
+    go (yes e) d =
+        put-here j (lowered (u (j + 1))) u e
+        ∙ ap lowered (back-still m s (j - s) t (j + 1) (omega (arith, rank-ahead {m = m} {s = s} {i = j + 1} (omega arith) o)))
+        ∙ ap (λ (q : ℕ). lowered (t q)) (sym next-one ∙ ap (next m) (sym e))
+        ∙ sym (back-moved m s (j + 1 - s) t i (omega (arith, rank-ahead {m = m} {s = s} {i = i} (omega arith) l)))
+    go (no n) (yes d) =
+        let r : rank m s i ≡ i + m - s = rank-behind d (omega arith) in
+        put-other j (lowered (u (j + 1))) u n ∙ back-still m s (j - s) t i (omega (arith, r)) ∙ sym (back-still m s (j + 1 - s) t i (omega (arith, r)))
+    go (no n) (no d) = put-other j (lowered (u (j + 1))) u n ∙ side (decLt i j)
       where
-        apart : rank m s i ≡ l → ⊥
-        apart r = n (rank-same h k (onward-in l h) (r ∙ sym here))
+        r : rank m s i ≡ i - s
+        r = rank-ahead (omega arith) l
 
-        side : Dec (rank m s i < l) → u i ≡ shiftedBack m s (suc l) t i
-        side (yes a) = back-moved m s l t i a ∙ sym (back-moved m s (suc l) t i (omega arith))
-        side (no a) = back-still m s l t i (omega arith) ∙ sym (back-still m s (suc l) t i (further (ℕ-discrete (rank m s i) l)))
-          where
-            further : Dec (rank m s i ≡ l) → suc l ≤ rank m s i
-            further (yes r) = absurd (apart r)
-            further (no r) = omega arith
+        side : Dec (i < j) → u i ≡ shiftedBack m s (j + 1 - s) t i
+        side (yes a) = back-moved m s (j - s) t i (omega (arith, r)) ∙ sym (back-moved m s (j + 1 - s) t i (omega (arith, r)))
+        side (no a) = back-still m s (j - s) t i (omega (arith, r)) ∙ sym (back-still m s (j + 1 - s) t i (omega (arith, r)))
+
+-- a run around the end is one up to the last slot, the record of slot 0 moved to the last slot, and one from slot 0 on
+pub turnedBack : ℕ → ℕ → Table → Table
+turnedBack m s t = let u = shiftedBack m s (m - 1 - s) t in putAt (m - 1) (lowered (u 0)) u
+
+module _ (m s k : ℕ) (t : Table) (h : s < m) (o : k < m) (w : m ≤ s + k) where
+  -- the slots before s are as they were after the first two
+  pub back-turned-still : (i : ℕ) → i < s → turnedBack m s t i ≡ t i
+  unfolding turnedBack
+  back-turned-still i l =
+      let u = shiftedBack m s (m - 1 - s) t in
+      put-other (m - 1) (lowered (u 0)) u (omega arith) ∙ back-still m s (m - 1 - s) t i (omega (arith, rank-behind {m = m} {s = s} {i = i} l h))
+
+  pub back-around : (v : Table) → ((i : ℕ) → i < m → v i ≡ turnedBack m s t i) → (i : ℕ) → i < m → shiftedBack m 0 (s + k - m) v i ≡ shiftedBack m s k t i
+  unfolding turnedBack
+  back-around v same i l = go (decLt i s) (decLt i (s + k - m))
+    where
+      u : Table
+      u = shiftedBack m s (m - 1 - s) t
+
+      z : rank m 0 i ≡ i
+      z = rank-ahead (omega arith) l ∙ omega arith
+
+      go : Dec (i < s) → Dec (i < s + k - m) → shiftedBack m 0 (s + k - m) v i ≡ shiftedBack m s k t i
+      go (yes b) (yes a) =
+          let q : next m i ≡ suc i = next-inner (omega arith) in
+          back-moved m 0 (s + k - m) v i (omega (arith, z))
+          ∙ ap lowered (same (next m i) (next-in l) ∙ back-turned-still (next m i) (omega (arith, q)))
+          ∙ sym (back-moved m s k t i (omega (arith, rank-behind {m = m} {s = s} {i = i} b h)))
+      go (yes b) (no a) =
+          back-still m 0 (s + k - m) v i (omega (arith, z)) ∙ same i l ∙ back-turned-still i b
+          ∙ sym (back-still m s k t i (omega (arith, rank-behind {m = m} {s = s} {i = i} b h)))
+      go (no b) d = back-still m 0 (s + k - m) v i (omega (arith, z)) ∙ same i l ∙ side (ℕ-discrete i (m - 1))
+        where
+          r : rank m s i ≡ i - s
+          r = rank-ahead (omega arith) l
+
+          side : Dec (i ≡ m - 1) → putAt (m - 1) (lowered (u 0)) u i ≡ shiftedBack m s k t i
+          side (yes e) =
+              put-here (m - 1) (lowered (u 0)) u e
+              ∙ ap lowered (back-still m s (m - 1 - s) t 0 (omega (arith, rank-behind {m = m} {s = s} {i = 0} (omega arith) h)))
+              ∙ ap (λ (q : ℕ). lowered (t q)) (sym (next-last (omega arith)))
+              ∙ sym (back-moved m s k t i (omega (arith, r)))
+          side (no n) =
+              put-other (m - 1) (lowered (u 0)) u n ∙ back-moved m s (m - 1 - s) t i (omega (arith, r))
+              ∙ sym (back-moved m s k t i (omega (arith, r)))
 
 -- the run closed: the slot last vacated is zeroed
 pub closes : (m s k : ℕ) (t : Table) → s < m → k < m → (i : ℕ) → i < m → putAt (onward m s k) empty (shiftedBack m s k t) i ≡ removed m s k t i
@@ -281,55 +322,88 @@ module _ {m a b : ℕ} {t : Table} where
   pub lifting-end : {ws cs : List ℕ} {j : ℕ} → Lifting m a b t ws cs j → j ≤ a → Holds m (lifted a b t) ws cs
   lifting-end {ws} {cs} {j} g l = let e : j ≡ a = omega (arith, g .from) in holds-as (g .holds) (λ i k. ap (λ (q : ℕ). lifted q b t i) e)
 
--- the shift back's loop stands at slot j: as many records as done have moved
-pub record Backing (m s k : ℕ) (t : Table) (ws cs : List ℕ) (j done : ℕ) : Type 0 where
-  pub at : j ≡ onward m s done
-  pub inside : j < m
-  pub to : done ≤ k
-  pub holds : Holds m (shiftedBack m s done t) ws cs
+-- the shift back's loop stands at slot j: the slots from s up to before it have been written
+pub record Lowering (m s k : ℕ) (t : Table) (ws cs : List ℕ) (j : ℕ) : Type 0 where
+  pub from : s ≤ j
+  pub to : j ≤ s + k
+  pub top : s + k < m
+  pub holds : Holds m (shiftedBack m s (j - s) t) ws cs
+
+-- a record that moves back has a count of 2 or more, told by its slot
+pub liftable-at : {m s k : ℕ} (t : Table) → Liftable m s k t → s < m → (i : ℕ) → i < m → 1 ≤ rank m s i → rank m s i ≤ k → 2 ≤ t i .count
+liftable-at {m} {s} {k} t up h i l a b =
+    let e : t (onward m s (rank m s i)) .count ≡ t i .count = ap (λ (q : ℕ). t q .count) (onward-rank h l) in
+    omega (arith, e, up (rank m s i) a b)
 
 module _ {m s k : ℕ} {t : Table} where
-  pub backing-start : {ws cs : List ℕ} → Holds m t ws cs → s < m → Backing m s k t ws cs s 0
-  backing-start h l = record { at = sym (onward-zero l); inside = l; to = omega arith; holds = holds-as h (λ i o. back-none m s t i) }
+  pub lowering-start : {ws cs : List ℕ} → Holds m t ws cs → s + k < m → Lowering m s k t ws cs s
+  lowering-start h l =
+      let e : 0 ≡ s - s = omega arith in
+      record { from = omega arith; to = omega arith; top = l; holds = holds-as h (λ i o. back-none m s t i ∙ ap (λ (n : ℕ). shiftedBack m s n t i) e) }
 
   -- the record that moves next is as it was
-  pub backing-count : {ws cs : List ℕ} {j done : ℕ} → Backing m s k t ws cs j done → s < m → k < m → done < k → Liftable m s k t → 0 < getD cs (next m j) 0
-  backing-count {ws} {cs} {j} {done} g h o l up =
-      let q : next m j ≡ onward m s (suc done) = ap (next m) (g .at) ∙ sym (onward-suc m s done) in
-      let r : rank m s (onward m s (suc done)) ≡ suc done = rank-onward h (omega arith) in
-      let e : tableOf ws cs (onward m s (suc done)) .count ≡ t (onward m s (suc done)) .count
-      = ap (λ (c : Cell). c .count) (g .holds .slots (onward m s (suc done)) (onward-in (suc done) h) ∙ back-still m s done t (onward m s (suc done)) (omega arith)) in
-      rw q (omega (arith, e, up (suc done) (omega arith) (omega arith)))
+  pub lowering-count : {ws cs : List ℕ} {j : ℕ} → Lowering m s k t ws cs j → j < s + k → Liftable m s k t → 0 < getD cs (j + 1) 0
+  lowering-count {ws} {cs} {j} g l up =
+      let r : rank m s (j + 1) ≡ j + 1 - s = rank-ahead (omega (arith, g .from)) (omega (arith, g .top)) in
+      let e : tableOf ws cs (j + 1) .count ≡ t (j + 1) .count
+      = ap (λ (c : Cell). c .count) (g .holds .slots (j + 1) (omega (arith, g .top)) ∙ back-still m s (j - s) t (j + 1) (omega (arith, r))) in
+      omega (arith, e, liftable-at t up (omega (arith, g .top)) (j + 1) (omega (arith, g .top)) (omega (arith, r, g .from)) (omega (arith, r, g .from)))
 
-  backing-step : {ws cs : List ℕ} {j done : ℕ} → Backing m s k t ws cs j done → s < m → k < m → done < k
-      → Backing m s k t (set (set ws (2 * j) (getD ws (2 * next m j) 0)) (2 * j + 1) (getD ws (2 * next m j + 1) 0)) (set cs j (getD cs (next m j) 0 - 1)) (next m j) (done + 1)
-  backing-step {ws} {cs} {j} {done} g h o l =
-      let q : next m j ≡ onward m s (suc done) = ap (next m) (g .at) ∙ sym (onward-suc m s done) in
-      let d : done + 1 ≡ suc done = omega arith in
+  lowering-step : {ws cs : List ℕ} {j : ℕ} → Lowering m s k t ws cs j → j < s + k
+      → Lowering m s k t (set (set ws (2 * j) (getD ws (2 * (j + 1)) 0)) (2 * j + 1) (getD ws (2 * (j + 1) + 1) 0)) (set cs j (getD cs (j + 1) 0 - 1)) (j + 1)
+  lowering-step {ws} {cs} {j} g l =
       record {
-        at = q ∙ ap (onward m s) (sym d);
-        inside = next-in (g .inside);
+        from = omega (arith, g .from);
         to = omega arith;
+        top = g .top;
         holds =
-            holds-as (move-back-holds (next m j) j (next-in (g .inside)) (g .inside) (g .holds))
-            (λ i e. ap (λ (n : ℕ). putAt j (lowered (shiftedBack m s done t n)) (shiftedBack m s done t) i) q
-            ∙ ap (λ (n : ℕ). putAt n (lowered (shiftedBack m s done t (onward m s (suc done)))) (shiftedBack m s done t) i) (g .at)
-            ∙ back-step m s done t h (omega arith) i e ∙ ap (λ (n : ℕ). shiftedBack m s n t i) (sym d));
+            holds-as (move-back-holds (j + 1) j (omega (arith, g .top)) (omega (arith, g .top)) (g .holds))
+            (back-step m s t j (g .from) (omega (arith, g .top)));
       }
 
-  pub backing-next : {ws cs us ds : List ℕ} {j i done : ℕ} → Backing m s k t ws cs j done → s < m → k < m → done < k → i ≡ next m j
-      → (us ≡ set (set ws (2 * j) (getD ws (2 * i) 0)) (2 * j + 1) (getD ws (2 * i + 1) 0)) × (ds ≡ set cs j (getD cs i 0 - 1))
-      → Backing m s k t us ds i (done + 1)
-  backing-next {ws} {cs} {us} {ds} {j} {i} {done} g h o l q e = rw (e .0, e .1, q) (backing-step g h o l)
+  pub lowering-next : {ws cs us ds : List ℕ} {j : ℕ} → Lowering m s k t ws cs j → j < s + k
+      → (us ≡ set (set ws (2 * j) (getD ws (2 * (j + 1)) 0)) (2 * j + 1) (getD ws (2 * (j + 1) + 1) 0)) × (ds ≡ set cs j (getD cs (j + 1) 0 - 1))
+      → Lowering m s k t us ds (j + 1)
+  lowering-next {ws} {cs} {us} {ds} {j} g l e = rw (e .0, e .1) (lowering-step g l)
 
-  pub backing-end : {ws cs : List ℕ} {j done : ℕ} → Backing m s k t ws cs j done → k ≤ done → (j ≡ onward m s k) × Holds m (shiftedBack m s k t) ws cs
-  backing-end {ws} {cs} {j} {done} g l =
-      let e : done ≡ k = omega (arith, g .to) in
-      (g .at ∙ ap (onward m s) e, holds-as (g .holds) (λ i o. ap (λ (n : ℕ). shiftedBack m s n t i) e))
+  pub lowering-end : {ws cs : List ℕ} {j : ℕ} → Lowering m s k t ws cs j → s + k ≤ j → Holds m (shiftedBack m s k t) ws cs
+  lowering-end {ws} {cs} {j} g l =
+      let e : j - s ≡ k = omega (arith, g .to) in holds-as (g .holds) (λ i o. ap (λ (n : ℕ). shiftedBack m s n t i) e)
 
 -- lists that hold a table of m slots are lent lists
 pub lent-of : {m : ℕ} {u : Table} {ws cs : List ℕ} → 2 ≤ m → m ≤ 32768 → Holds m u ws cs → Lent m ws cs
 lent-of a b h = record { least = a; most = b; words = h .words; counts = h .counts }
+
+-- a slot is as far onward as its rank says
+pub onward-of : {m s k i : ℕ} → s < m → i < m → rank m s i ≡ k → i ≡ onward m s k
+onward-of {m} {s} h l e = sym (onward-rank h l) ∙ ap (onward m s) e
+
+-- the parts of a shift back around the end, with the lists in between
+module _ (m s k : ℕ) (t : Table) (h : s < m) (o : k < m) (up : Liftable m s k t) (w : m ≤ s + k) where
+  pub liftable-first : Liftable m s (m - 1 - s) t
+  liftable-first i a b = up i a (omega arith)
+
+  pub back-turn-count : {ws cs : List ℕ} → Holds m (shiftedBack m s (m - 1 - s) t) ws cs → 0 < getD cs 0 0
+  back-turn-count {ws} {cs} held =
+      let r : rank m s 0 ≡ 0 + m - s = rank-behind (omega arith) h in
+      let e : tableOf ws cs 0 .count ≡ t 0 .count
+      = ap (λ (c : Cell). c .count) (held .slots 0 (omega arith) ∙ back-still m s (m - 1 - s) t 0 (omega (arith, r))) in
+      omega (arith, e, liftable-at t up h 0 (omega arith) (omega (arith, r)) (omega (arith, r)))
+
+  pub back-turn-holds : {ws cs us ds : List ℕ} → Holds m (shiftedBack m s (m - 1 - s) t) ws cs
+      → (us ≡ set (set ws (2 * (m - 1)) (getD ws (2 * 0) 0)) (2 * (m - 1) + 1) (getD ws (2 * 0 + 1) 0)) × (ds ≡ set cs (m - 1) (getD cs 0 0 - 1))
+      → Holds m (turnedBack m s t) us ds
+  unfolding turnedBack
+  back-turn-holds held q = rw (q .0, q .1) (move-back-holds 0 (m - 1) (omega arith) (omega arith) held)
+
+  pub liftable-rest : {ws cs : List ℕ} → Holds m (turnedBack m s t) ws cs → Liftable m 0 (s + k - m) (tableOf ws cs)
+  liftable-rest {ws} {cs} held i a b =
+      let r : rank m s i ≡ i + m - s = rank-behind (omega arith) h in
+      let z : i ≡ onward m 0 i = onward-of (omega arith) (omega arith) (rank-ahead (omega arith) (omega arith) ∙ omega arith) in
+      let q : tableOf ws cs i .count ≡ tableOf ws cs (onward m 0 i) .count = ap (λ (n : ℕ). tableOf ws cs n .count) z in
+      let e : tableOf ws cs i .count ≡ t i .count
+      = ap (λ (c : Cell). c .count) (held .slots i (omega arith) ∙ back-turned-still m s k t h o w i (omega arith)) in
+      omega (arith, q, e, liftable-at t up h i (omega arith) (omega (arith, r)) (omega (arith, r)))
 
 -- the counts of a store's run stay within 16 bits
 module _ (m s k : ℕ) (t : Table) (h : s < m) (o : k < m) (most : m ≤ 32768) (near : anyFar m s t k ≡ false) where

@@ -1,11 +1,10 @@
 // The two shifts: a store's run one slot on, a remove's run one slot back.
 use crate::slot::move_back;
 use crate::slot::move_on;
-use crate::slot::next;
 use crate::slot::put;
 ghost use mathlib.Core.Path.{_≡_};
 ghost use mathlib.Core.Bool.{false};
-ghost use Prim.Native.Nat.{ℕ, _≤_, _<_};
+ghost use Prim.Native.Nat.{ℕ, _+_, _≤_, _<_};
 ghost use lib.ListN.{getD};
 ghost use Rattle.arrangement.specs.Table.{onward};
 ghost use Rattle.arrangement.specs.Changes.{anyFar, stored, removed};
@@ -41,20 +40,35 @@ fn shift_on(words: &mut [u64], counts: &mut [u16], m: usize, s: usize, k: usize)
     lift(words, counts, m, s, m - 1);
 }
 
-// The k records after slot s move one slot back, the first one first; the slot last vacated comes back.
+// The k records after slot s move one slot back, the first one first; no slot lies around the end.
+fn lower(words: &mut [u64], counts: &mut [u16], m: usize, s: usize, k: usize)
+    requires { ⌜ Lent m (now words) (now counts) × (s + k < m) × Liftable m s k (tableOf (now words) (now counts)) ⌝ }
+    ensures { λ r. ⌜ Holds m (shiftedBack m s k (tableOf (now (words .entry)) (now (counts .entry)))) (now (words .exit)) (now (counts .exit)) ⌝ }
+{
+    let e = s + k;
+    let mut j = s;
+    while j < e {
+        let i = j + 1;
+        move_back(words, counts, i, j);
+        j = i;
+    }
+}
+
+// The k records after slot s move one slot back, as one part or as one to either side of the end; the slot last vacated comes back.
 fn shift_back(words: &mut [u64], counts: &mut [u16], m: usize, s: usize, k: usize) -> usize
     requires { ⌜ Lent m (now words) (now counts) × (s < m) × (k < m) × Liftable m s k (tableOf (now words) (now counts)) ⌝ }
     ensures { λ r. ⌜ (r ≡ onward m s k) × Holds m (shiftedBack m s k (tableOf (now (words .entry)) (now (counts .entry)))) (now (words .exit)) (now (counts .exit)) ⌝ }
 {
-    let mut j = s;
-    let mut done: usize = 0;
-    while done < k {
-        let i = next(m, j);
-        move_back(words, counts, i, j);
-        j = i;
-        done += 1;
+    let far = s + k;
+    if far < m {
+        lower(words, counts, m, s, k);
+        return far;
     }
-    j
+    let last = far - m;
+    lower(words, counts, m, s, m - 1 - s);
+    move_back(words, counts, 0, m - 1);
+    lower(words, counts, m, 0, last);
+    last
 }
 
 // A store's run opened at s: its k records move on, and the new record takes s with count p.

@@ -1,59 +1,84 @@
--- `shift::shift_back` meets its contract: the shift in mid-way, `Backing`, is the loop's invariant.
+-- `shift::shift_back` meets its contract: a run within the table is one part, a run around the end three.
 -- Assumes nothing.
-use Prim.Native.Nat.{_-_}
+use Prim.Native.Nat.{_+_, _-_}
+use mathlib.Core.Path.{_∙_}
 use native.Mathlib.Omega.{arith}
 use borrow.Author.Needs.{needs}
+use Rattle.arrangement.proofs.Cycle.{rank-ahead, rank-behind}
 use Rattle.register.specs.Slices.{tableOf}
-use Rattle.register.proofs.Slices.{holds-own}
-use Rattle.register.proofs.Shifting.{Backing, backing-start, backing-count, backing-next, backing-end}
+use Rattle.register.proofs.Slices.{holds-as}
+use Rattle.register.proofs.Shifting.{lent-of, onward-of, liftable-first, back-turn-count, back-turn-holds, liftable-rest, back-around}
 use Rattle.register.proofs.shift.shift_back.Statement.{statement}
 use Rattle.register.proofs.shift.shift_back.Tie as tie
 
-abbrev Inv-loop : tie.InvT-loop
-Inv-loop words₀ counts₀ m s k j₀ done₀ words counts j done = Backing m s k (tableOf words₀ counts₀) words counts j done
+add-far : tie.Need-add-far
+add-far c = search needs
 
-abbrev μ-loop : tie.MeasureT-loop
-μ-loop words₀ counts₀ m s k j₀ done₀ words counts j done = k - done
+lower-requires : tie.Need-lower-requires
+lower-requires c κs = search needs
 
-loop-holds : tie.Need-loop-holds Inv-loop μ-loop
-loop-holds c = backing-start (holds-own (omega arith) (omega arith)) (omega arith)
+same-length : tie.Need-same-length
+same-length c = search needs
 
-next-requires : tie.Need-next-requires Inv-loop μ-loop
-next-requires c κs = omega arith
+same-length-2 : tie.Need-same-length-2
+same-length-2 c = search needs
 
-move-back-requires : tie.Need-move-back-requires Inv-loop μ-loop
-move-back-requires c κs = (omega arith, omega arith, omega arith, omega arith, rw (c .before .before .next .ensures .0) (backing-count (c .before .before .before .before .loop .inv) (omega arith) (omega arith) (omega arith) (c .before .before .before .before .before .before .before .pre .3)))
+returns : tie.Need-returns
+returns c = (onward-of (omega arith) (omega arith) (rank-ahead (omega arith) (omega arith) ∙ omega arith), c .before .before .before .before .lower .ensures)
 
-add-done : tie.Need-add-done Inv-loop μ-loop
-add-done c = search needs
+sub-lower : tie.Need-sub-lower
+sub-lower c = search needs
 
-loop-less : tie.Need-loop-less Inv-loop μ-loop
-loop-less c = search needs
+sub-lower-2 : tie.Need-sub-lower-2
+sub-lower-2 c = search needs
 
-loop-again : tie.Need-loop-again Inv-loop μ-loop
-loop-again c = backing-next (c .before .before .before .before .before .before .before .before .before .loop .inv) (omega arith) (omega arith) (omega arith) (c .before .before .before .before .before .before .before .next .ensures .0) (c .before .before .before .before .move-back .ensures)
+lower-requires-2 : tie.Need-lower-requires-2
+lower-requires-2 c κs =
+    let a = c .before .before .before .before .before .args in
+    (c .before .before .before .before .before .pre .0, omega arith, liftable-first (a .m) (a .s) (a .k) (tableOf (a .words .now) (a .counts .now)) (omega arith) (omega arith) (c .before .before .before .before .before .pre .3) (omega arith))
 
-same-length : tie.Need-same-length Inv-loop μ-loop
-same-length c = omega arith
+sub-move-back : tie.Need-sub-move-back
+sub-move-back c = search needs
 
-same-length-2 : tie.Need-same-length-2 Inv-loop μ-loop
-same-length-2 c = omega arith
+move-back-requires : tie.Need-move-back-requires
+move-back-requires c κs =
+    let a = c .before .before .before .before .before .before .before .before .before .before .before .before .args in
+    let held = c .before .before .before .before .before .before .lower2 .ensures in
+    (omega (arith, held .counts), omega (arith, held .words), omega (arith, held .counts), omega (arith, held .words), back-turn-count (a .m) (a .s) (a .k) (tableOf (a .words .now) (a .counts .now)) (omega arith) (omega arith) (c .before .before .before .before .before .before .before .before .before .before .before .before .pre .3) (omega arith) held)
 
-returns : tie.Need-returns Inv-loop μ-loop
-returns c = backing-end (c .before .loop .inv) (omega arith)
+lower-requires-3 : tie.Need-lower-requires-3
+lower-requires-3 c κs =
+    let a = c .before .before .before .before .before .before .before .before .before .before .before .before .before .before .before .before .before .before .before .args in
+    let held = back-turn-holds (a .m) (a .s) (a .k) (tableOf (a .words .now) (a .counts .now)) (omega arith) (omega arith) (c .before .before .before .before .before .before .before .before .before .before .before .before .before .before .before .before .before .before .before .pre .3) (omega arith) (c .before .before .before .before .before .before .before .before .before .before .before .before .before .lower2 .ensures) (c .before .before .before .before .before .before .move-back .ensures) in
+    (lent-of (omega arith) (omega arith) held, omega arith, liftable-rest (a .m) (a .s) (a .k) (tableOf (a .words .now) (a .counts .now)) (omega arith) (omega arith) (c .before .before .before .before .before .before .before .before .before .before .before .before .before .before .before .before .before .before .before .pre .3) (omega arith) held)
+
+same-length-3 : tie.Need-same-length-3
+same-length-3 c = search needs
+
+same-length-4 : tie.Need-same-length-4
+same-length-4 c = search needs
+
+returns-2 : tie.Need-returns-2
+returns-2 c =
+    let a = c .before .before .before .before .before .before .before .before .before .before .before .before .before .before .before .before .before .before .before .before .before .before .before .before .args in
+    let held = back-turn-holds (a .m) (a .s) (a .k) (tableOf (a .words .now) (a .counts .now)) (omega arith) (omega arith) (c .before .before .before .before .before .before .before .before .before .before .before .before .before .before .before .before .before .before .before .before .before .before .before .before .pre .3) (omega arith) (c .before .before .before .before .before .before .before .before .before .before .before .before .before .before .before .before .before .before .lower2 .ensures) (c .before .before .before .before .before .before .before .before .before .before .before .move-back .ensures) in
+    (onward-of (omega arith) (omega arith) (rank-behind (omega arith) (omega arith) ∙ omega arith), holds-as (c .before .before .before .before .lower3 .ensures) (back-around (a .m) (a .s) (a .k) (tableOf (a .words .now) (a .counts .now)) (omega arith) (omega arith) (omega arith) _ (held .slots)))
 
 pub shift-back-spec : {M : Type 1} → statement M
 shift-back-spec =
     tie.close
     (tie.spec
-    Inv-loop
-    μ-loop
-    loop-holds
-    next-requires
-    move-back-requires
-    add-done
-    loop-less
-    loop-again
+    add-far
+    lower-requires
     same-length
     same-length-2
-    returns)
+    returns
+    sub-lower
+    sub-lower-2
+    lower-requires-2
+    sub-move-back
+    move-back-requires
+    lower-requires-3
+    same-length-3
+    same-length-4
+    returns-2)
