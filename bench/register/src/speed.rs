@@ -50,10 +50,10 @@ fn timed(table: &mut dyn Table, round: &Round, times: &mut [Vec<f64>; 7]) -> [u6
     sums
 }
 
-/// The lower quartile: what the machine's other work slows down least.
-fn quartile(times: &mut [f64]) -> Option<f64> {
+/// The lowest tenth's last: what the machine's other work slows down least.
+fn tenth(times: &mut [f64]) -> Option<f64> {
     times.sort_by(f64::total_cmp);
-    times.get(times.len() / 4).copied()
+    times.get(times.len() / 10).copied()
 }
 
 fn whole_table(table: &dyn Table, slots: usize, times: &mut [Vec<f64>; 7]) {
@@ -98,7 +98,7 @@ pub fn case(slots: usize, rule: u8, load: f64) -> Case {
     }
     let lines = tables.iter().zip(times.iter_mut()).map(|((name, table), times)| Line {
         table: name,
-        times: std::array::from_fn(|i| quartile(&mut times[i])),
+        times: std::array::from_fn(|i| tenth(&mut times[i])),
         grown: table.slots() > slots,
     });
     Case { slots, rule, load, lines: lines.collect() }
