@@ -48,7 +48,7 @@ fn put_answer(a: Answer) {
     put(b"\n");
 }
 
-// The identifiers and counts of eight slots, slot 0 first.
+// The identifiers of eight slots, slot 0 first.
 fn put_identifiers(words: &[u64; 16]) {
     put(b" identifiers");
     let mut i: usize = 0;
@@ -58,11 +58,16 @@ fn put_identifiers(words: &[u64; 16]) {
     }
 }
 
+fn wide(x: u16) -> u64 {
+    x as u64
+}
+
+// Their counts.
 fn put_counts(counts: &[u16; 8]) {
     put(b" counts");
     let mut i: usize = 0;
     while i < 8 {
-        put_field(counts[i] as u64, 1);
+        put_field(wide(counts[i]), 1);
         i += 1;
     }
     put(b"\n");
@@ -142,7 +147,7 @@ fn cluster() {
     put_census(removed.head, &words, &counts);
 }
 
-fn put_census(head: Head, words: &[u64], counts: &[u16]) {
+fn put_census(head: Head, words: &[u64; 16], counts: &[u16; 8]) {
     let c = register::census(head, words, counts);
     put(b"P12 census: ");
     put_number(c.number as u64, 2);
