@@ -2,6 +2,7 @@
 // An answer is one line: number, slot, entry, probes, moved, live, each in hexadecimal of fixed width.
 use libc::STDOUT_FILENO;
 use register::Answer;
+use register::Census;
 use register::Head;
 ghost use Prim.Native.Nat.{_≤_, _<_};
 
@@ -48,35 +49,30 @@ fn put_answer(a: Answer) {
     put(b"\n");
 }
 
-// The identifiers of eight slots, slot 0 first.
-fn put_identifiers(words: &[u64; 16]) {
-    put(b" identifiers");
-    let mut i: usize = 0;
-    while i < 8 {
-        put_field(words[2 * i], 2);
-        i += 1;
-    }
+// Number, greatest count, stored total and absent total.
+fn put_census(c: Census) {
+    put_number(c.number as u64, 2);
+    put_field(c.greatest as u64, 4);
+    put_field(c.stored as u64, 8);
+    put_field(c.absent as u64, 8);
+    put(b"\n");
 }
 
 fn wide(x: u16) -> u64 {
     x as u64
 }
 
-// Their counts.
-fn put_counts(counts: &[u16; 8]) {
-    put(b" counts");
+// Eight slots, slot 0 first: the identifier, a colon, and the count.
+fn put_table(label: &[u8], words: &[u64; 16], counts: &[u16; 8]) {
+    put(label);
     let mut i: usize = 0;
     while i < 8 {
-        put_field(wide(counts[i]), 1);
+        put_field(words[2 * i], 2);
+        put(b":");
+        put_number(wide(counts[i]), 1);
         i += 1;
     }
     put(b"\n");
-}
-
-fn put_table(label: &[u8], words: &[u64; 16], counts: &[u16; 8]) {
-    put(label);
-    put_identifiers(words);
-    put_counts(counts);
 }
 
 // A store whose answer is printed; the head comes back.
@@ -126,7 +122,7 @@ fn two_alike(first: u64, second: u64) {
     put_table(b"P1", &words, &counts);
 }
 
-// P2 to P6 and P12: one register after another.
+// P2 to P4: one register after another.
 fn cluster() {
     let mut words = [0u64; 16];
     let mut counts = [0u16; 8];
@@ -140,21 +136,17 @@ fn cluster() {
     put_table(b"P3", &words, &counts);
     let removed = register::remove(h5, &mut words, &mut counts, 0x07);
     put_table(b"P4", &words, &counts);
-    put(b"P5 find 09: ");
-    put_answer(register::find(removed.head, &words, &counts, 0x09));
-    put(b"P6 find 00: ");
-    put_answer(register::find(removed.head, &words, &counts, 0x00));
-    put_census(removed.head, &words, &counts);
+    read(removed.head, &words, &counts);
 }
 
-fn put_census(head: Head, words: &[u64; 16], counts: &[u16; 8]) {
-    let c = register::census(head, words, counts);
+// P5, P6 and P12: what is read of the register of P4.
+fn read(head: Head, words: &[u64; 16], counts: &[u16; 8]) {
+    put(b"P5 find 09: ");
+    put_answer(register::find(head, words, counts, 0x09));
+    put(b"P6 find 00: ");
+    put_answer(register::find(head, words, counts, 0x00));
     put(b"P12 census: ");
-    put_number(c.number as u64, 2);
-    put_field(c.greatest as u64, 4);
-    put_field(c.stored as u64, 8);
-    put_field(c.absent as u64, 8);
-    put(b"\n");
+    put_census(register::census(head, words, counts));
 }
 
 // P7: the one place of two slots.
