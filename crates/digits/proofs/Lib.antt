@@ -1,0 +1,7 @@
+-- Laws of hexadecimal fields.
+pub mod Tests
+pub mod Single
+pub mod Filling
+pub mod Reading
+pub mod Placing
+pub mod Back

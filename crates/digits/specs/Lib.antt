@@ -1,0 +1,2 @@
+-- What a reader must believe of hexadecimal fields.
+pub mod Digits

@@ -1,0 +1,21 @@
+// The register as a program: frames from standard input, answer lines to standard output.
+mod input;
+
+use input::Session;
+use input::turn;
+
+// A proved loop has to end, and nothing says that an input does: the turns count down from a number that no run uses up.
+fn main() {
+    let mut words = [0u64; 4096];
+    let mut counts = [0u16; 2048];
+    let mut line = [0u8; 37];
+    let mut session = Session::new();
+    let mut turns = u64::MAX;
+    while turns > 0 {
+        session = turn(session, &mut words, &mut counts, &mut line);
+        if session.ended {
+            return;
+        }
+        turns -= 1;
+    }
+}
