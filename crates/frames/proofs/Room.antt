@@ -1,17 +1,15 @@
 -- What the room decides: a register too large for it is refused with 2, a refused clear changes nothing, and before the first accepted
 -- clear every other frame is answered 1. By computing the register's own definitions. Assumes nothing.
-use Prim.Native.Nat.{ℕ, _+_, _*_, _-_, _<_, _≤_}
-use mathlib.Core.Path.{_≡_, refl, sym, _∙_, ap}
-use mathlib.Core.Bool.{Bool, true, false, cond}
-use mathlib.Core.List.{List, [], _∷_, _++_, append-nil}
+use Prim.Native.Nat.{ℕ, _*_, _-_, _≤_}
+use mathlib.Core.Path.{_≡_, refl}
+use mathlib.Core.List.{List}
 use native.Mathlib.Omega.{arith}
-use lib.ListN.{length, take, drop, drop-of-length-le, take-append-drop}
+use lib.ListN.{length, take, take-append-drop}
 use lib.Seq.{take-all}
-use lib.Dec.{eqb}
-use borrow.Author.Tests.{le-ltb, ne-eqb, eqb-true}
+use borrow.Author.Tests.{le-ltb, ne-eqb}
 use Rattle.register.specs.declared.head.Head.{Head}
 use Rattle.register.specs.Head.{goodHead, headOf}
-use Rattle.register.specs.Answers.{Out, out, refusal, openNumber, lengthNumber}
+use Rattle.register.specs.Answers.{out, refusal, openNumber, lengthNumber}
 use Rattle.register.specs.Clear.{clearOf, newHead}
 use Rattle.register.specs.Store.{storeOf}
 use Rattle.register.specs.Find.{findOf}

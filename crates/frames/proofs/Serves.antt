@@ -3,7 +3,7 @@
 use Prim.Native.Nat.{ℕ, _*_, _<_, _≤_, min}
 use mathlib.Core.Path.{_≡_, refl, sym, _∙_, ap}
 use mathlib.Core.Bool.{Bool, true, false}
-use mathlib.Core.List.{List, [], _++_}
+use mathlib.Core.List.{List, _++_}
 use native.Mathlib.Omega.{arith}
 use lib.ListN.{length, take, drop, drop-of-length-le}
 use lib.Seq.{take-all}
@@ -17,7 +17,7 @@ use Rattle.frames.specs.declared.frame.Parsed.{Parsed}
 use Rattle.frames.specs.declared.frame.Parsed.the-variants.{Good, Bad}
 use Rattle.frames.specs.Parsing.{parseOf}
 use Rattle.frames.specs.Printing.{printOf}
-use Rattle.frames.specs.Serving.{callOf, slotsOf, roomOf, answeredOf, served, servedBy, serveOf}
+use Rattle.frames.specs.Serving.{callOf, slotsOf, roomOf, served, servedBy, serveOf}
 
 module _ (n : ℕ) (l : List ℕ) where
   take-least : take (min n (length l)) l ≡ take n l

@@ -14,15 +14,18 @@ pub struct Session {
 }
 
 impl Session {
-    // Before the first accepted clear the head is all zeros.
-    pub fn new() -> Self
+    pub fn of(head: Head, kept: usize, ended: bool) -> Self
+        ensures { λ r. ⌜ r .kept ≡ kept ⌝ }
+    {
+        Session { head, kept, ended }
+    }
+
+    // The same, to end, with nothing kept.
+    fn over(self) -> Self
         ensures { λ r. ⌜ r .kept ≡ 0 ⌝ }
     {
-        Session {
-            head: Head::cleared(0, 0, 0),
-            kept: 0,
-            ended: false,
-        }
+        let head = self.head;
+        Session::of(head, 0, true)
     }
 }
 
@@ -67,16 +70,19 @@ fn answer(
     line: &mut [u8],
     part: &[u8],
     output: &mut [u8],
-) -> Head
+) -> Session
     requires { ⌜ session .kept ≤ length (now line) ⌝ }
+    ensures { λ r. ⌜ r .kept ≡ 0 ⌝ }
 {
-    let head = session.head;
+    let old = session.head;
     let kept = session.kept;
     if kept == 0 {
-        return frames::serve(head, words, counts, part, output);
+        let head = frames::serve(old, words, counts, part, output);
+        return Session::of(head, 0, false);
     }
     let n = keep(line, kept, part);
-    frames::serve(head, words, counts, &line[..n], output)
+    let head = frames::serve(old, words, counts, &line[..n], output);
+    Session::of(head, 0, false)
 }
 
 // The whole lines of one read, answered and written; what is left is kept.
@@ -91,57 +97,40 @@ fn feed(
     requires { ⌜ (session .kept ≤ length (now line)) × (40 ≤ length (now output)) ⌝ }
     ensures { λ r. ⌜ r .kept ≤ length (now (line .exit)) ⌝ }
 {
-    let mut now = session;
+    let mut held = session;
     let mut at: usize = 0;
     let mut start: usize = 0;
     let mut end = newline(input, start);
     while end < input.len() {
         if output.len() - at < 40 {
             if !io::write_all(STDOUT_FILENO, &output[..at]) {
-                return Session {
-                    head: now.head,
-                    kept: 0,
-                    ended: true,
-                };
+                return held.over();
             }
             at = 0;
         }
-        let head = answer(
-            now,
-            words,
-            counts,
-            line,
-            &input[start..end],
-            &mut output[at..],
-        );
-        now = Session {
-            head,
-            kept: 0,
-            ended: false,
-        };
+        let part = &input[start..end];
+        held = answer(held, words, counts, line, part, &mut output[at..]);
         at += 40;
         start = end + 1;
         end = newline(input, start);
     }
-    let kept = keep(line, now.kept, &input[start..]);
-    let ended = !io::write_all(STDOUT_FILENO, &output[..at]);
-    Session {
-        head: now.head,
-        kept,
-        ended,
-    }
+    let kept = keep(line, held.kept, &input[start..]);
+    let open = io::write_all(STDOUT_FILENO, &output[..at]);
+    let head = held.head;
+    Session::of(head, kept, !open)
 }
 
 // The input has ended: a last line without a newline is read if it has bytes.
 fn finish(session: Session, words: &mut [u64], counts: &mut [u16], line: &[u8])
     requires { ⌜ session .kept ≤ length (now line) ⌝ }
 {
+    let head = session.head;
     let kept = session.kept;
     if kept == 0 {
         return;
     }
     let mut output = [0u8; 40];
-    frames::serve(session.head, words, counts, &line[..kept], &mut output);
+    frames::serve(head, words, counts, &line[..kept], &mut output);
     io::write_all(STDOUT_FILENO, &output);
 }
 
@@ -155,18 +144,10 @@ pub fn turn(session: Session, words: &mut [u64], counts: &mut [u16], line: &mut 
     let got = libc::read(STDIN_FILENO, &mut input);
     if got == 0 {
         finish(session, words, counts, line);
-        return Session {
-            head: session.head,
-            kept: 0,
-            ended: true,
-        };
+        return session.over();
     }
     if got < 0 {
-        return Session {
-            head: session.head,
-            kept: 0,
-            ended: true,
-        };
+        return session.over();
     }
     let n = io::count(got, &input);
     feed(session, words, counts, line, &input[..n], &mut output)

@@ -1,51 +1,40 @@
+-- An answer's line is printed at the start of a buffer.
+-- Six fields, each behind what is done of the line. Assumes nothing.
 use borrow.Author.Needs.{needs}
 use Rattle.digits.proofs.Tests.{tests}
 use Rattle.frames.specs.Printing.{printOf}
 use Rattle.frames.proofs.Buffers.{six-fields}
 use Rattle.frames.proofs.answer.print.Statement.{statement}
 use Rattle.frames.proofs.answer.print.Tie as tie
-use Rattle.frames.proofs.answer.print.Reads as reads
-use Rattle.frames.proofs.answer.print.Lts as lts
-use Rattle.digits.proofs.write.Reads as write-reads
 
--- src/answer.rt:11:9
 returns : tie.Need-returns
 unfolding printOf
 returns c = search tests
 
--- src/answer.rt:14:33
 cast-write : tie.Need-cast-write
 cast-write c = search needs
 
--- src/answer.rt:14:5
 write-requires : tie.Need-write-requires
 write-requires c κs = search needs
 
--- src/answer.rt:15:5
 write-requires-2 : tie.Need-write-requires-2
 write-requires-2 c κs = search needs
 
--- src/answer.rt:16:5
 write-requires-3 : tie.Need-write-requires-3
 write-requires-3 c κs = search needs
 
--- src/answer.rt:17:5
 write-requires-4 : tie.Need-write-requires-4
 write-requires-4 c κs = search needs
 
--- src/answer.rt:18:5
 write-requires-5 : tie.Need-write-requires-5
 write-requires-5 c κs = search needs
 
--- src/answer.rt:19:5
 write-requires-6 : tie.Need-write-requires-6
 write-requires-6 c κs = search needs
 
--- src/answer.rt:7:1
 same-length : tie.Need-same-length
 same-length c = search needs
 
--- src/answer.rt:7:1
 returns-2 : tie.Need-returns-2
 returns-2 c =
     six-fields (c .before .before .before .before .before .before .before .before .before .before .before .before .before .before .before .before .before .before .before .before .before .before .before .before .before .before .before .before .args .answer) _ _ _ _ _ _ _ (search needs)

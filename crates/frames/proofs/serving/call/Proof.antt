@@ -1,3 +1,5 @@
+-- A frame's call is the register's own.
+-- Each arm is told its frame, at which the definition computes. Assumes nothing.
 use borrow.Author.Needs.{needs}
 use mathlib.Core.Path.{ap, sym, _∙_}
 use Rattle.register.specs.declared.answer.Answer.{Answer}
@@ -5,134 +7,96 @@ use Rattle.register.specs.Answers.{out}
 use Rattle.frames.specs.Serving.{callOf}
 use Rattle.frames.proofs.serving.call.Statement.{statement}
 use Rattle.frames.proofs.serving.call.Tie as tie
-use Rattle.frames.proofs.serving.call.Reads as reads
-use Rattle.frames.proofs.serving.call.Lts as lts
-use Rattle.register.proofs.change.Reads as change-reads
-use Rattle.register.proofs.check.Reads as check-reads
-use Rattle.register.proofs.clear.Reads as clear-reads
-use Rattle.register.proofs.find.Reads as find-reads
-use Rattle.register.proofs.remove.Reads as remove-reads
-use Rattle.register.proofs.store.Reads as store-reads
 
--- src/serving.rt:56:24
 enum-known-frame : tie.Need-enum-known-frame
 enum-known-frame c = search needs
 
--- src/serving.rt:57:13
 clear-requires : tie.Need-clear-requires
 clear-requires c κs = search needs
 
--- src/serving.rt:59:24
 enum-known-frame-2 : tie.Need-enum-known-frame-2
 enum-known-frame-2 c = search needs
 
--- src/serving.rt:60:13
 store-requires : tie.Need-store-requires
 store-requires c κs = search needs
 
--- src/serving.rt:62:23
 enum-known-frame-3 : tie.Need-enum-known-frame-3
 enum-known-frame-3 c = search needs
 
--- src/serving.rt:62:39
 find-requires : tie.Need-find-requires
 find-requires c κs = search needs
 
--- src/serving.rt:63:25
 enum-known-frame-4 : tie.Need-enum-known-frame-4
 enum-known-frame-4 c = search needs
 
--- src/serving.rt:63:41
 remove-requires : tie.Need-remove-requires
 remove-requires c κs = search needs
 
--- src/serving.rt:64:25
 enum-known-frame-5 : tie.Need-enum-known-frame-5
 enum-known-frame-5 c = search needs
 
--- src/serving.rt:65:13
 change-requires : tie.Need-change-requires
 change-requires c κs = search needs
 
--- src/serving.rt:67:47
 enum-told : tie.Need-enum-told
 enum-told c = search needs
 
--- src/serving.rt:67:25
 check-requires : tie.Need-check-requires
 check-requires c κs = search needs
 
--- src/serving.rt:52:1
 same-length : tie.Need-same-length
 same-length c = search needs
 
--- src/serving.rt:52:1
 same-length-2 : tie.Need-same-length-2
 same-length-2 c = search needs
 
--- src/serving.rt:52:1
 returns : tie.Need-returns
 returns c = c .before .before .before .before .clear .ensures ∙ ap (callOf _ _ _) (sym (c .before .before .before .before .before .before .before .before .frame .given .1))
 
--- src/serving.rt:52:1
 same-length-3 : tie.Need-same-length-3
 same-length-3 c = search needs
 
--- src/serving.rt:52:1
 same-length-4 : tie.Need-same-length-4
 same-length-4 c = search needs
 
--- src/serving.rt:52:1
 returns-2 : tie.Need-returns-2
 returns-2 c = c .before .before .before .before .store .ensures ∙ ap (callOf _ _ _) (sym (c .before .before .before .before .before .before .before .before .frame2 .given .1))
 
--- src/serving.rt:52:1
 same-length-5 : tie.Need-same-length-5
 same-length-5 c = search needs
 
--- src/serving.rt:52:1
 same-length-6 : tie.Need-same-length-6
 same-length-6 c = search needs
 
--- src/serving.rt:52:1
 returns-3 : tie.Need-returns-3
 returns-3 c =
     let a = c .before .before .before .before .before .before .before .before .args in
     ap (λ (x : Answer). out x (a .words .now) (a .counts .now)) (c .find .ensures) ∙ ap (callOf _ _ _) (sym (c .before .before .before .before .frame3 .given .1))
 
--- src/serving.rt:52:1
 same-length-7 : tie.Need-same-length-7
 same-length-7 c = search needs
 
--- src/serving.rt:52:1
 same-length-8 : tie.Need-same-length-8
 same-length-8 c = search needs
 
--- src/serving.rt:52:1
 returns-4 : tie.Need-returns-4
 returns-4 c = c .before .before .before .before .remove .ensures ∙ ap (callOf _ _ _) (sym (c .before .before .before .before .before .before .before .before .frame4 .given .1))
 
--- src/serving.rt:52:1
 same-length-9 : tie.Need-same-length-9
 same-length-9 c = search needs
 
--- src/serving.rt:52:1
 same-length-10 : tie.Need-same-length-10
 same-length-10 c = search needs
 
--- src/serving.rt:52:1
 returns-5 : tie.Need-returns-5
 returns-5 c = c .before .before .change .ensures ∙ ap (callOf _ _ _) (sym (c .before .before .before .before .before .before .frame5 .given .1))
 
--- src/serving.rt:52:1
 same-length-11 : tie.Need-same-length-11
 same-length-11 c = search needs
 
--- src/serving.rt:52:1
 same-length-12 : tie.Need-same-length-12
 same-length-12 c = search needs
 
--- src/serving.rt:52:1
 returns-6 : tie.Need-returns-6
 returns-6 c =
     let a = c .before .before .before .before .before .before .before .args in

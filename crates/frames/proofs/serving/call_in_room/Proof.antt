@@ -1,57 +1,42 @@
+-- A call in the room: the register's parts are lent out of it and put back.
+-- The lesser of a part's length and the room's takes the same list. Assumes nothing.
 use borrow.Author.Needs.{needs}
 use mathlib.Core.Path.{sym}
 use lib.Seq.{length-take-le}
 use Rattle.frames.proofs.Serves.{lent-parts}
 use Rattle.frames.proofs.serving.call_in_room.Statement.{statement}
 use Rattle.frames.proofs.serving.call_in_room.Tie as tie
-use Rattle.frames.proofs.serving.call_in_room.Reads as reads
-use Rattle.frames.proofs.serving.call_in_room.Lts as lts
-use Rattle.frames.proofs.serving.call.Reads as call-reads
-use Rattle.frames.proofs.serving.least.Reads as least-reads
-use Rattle.frames.proofs.serving.least_double.Reads as least-double-reads
-use Rattle.frames.proofs.serving.slots_of.Reads as slots-of-reads
 
--- src/serving.rt:65:9
 slots-of-requires : tie.Need-slots-of-requires
 slots-of-requires c κs = search needs
 
--- src/serving.rt:66:9
 least-double-requires : tie.Need-least-double-requires
 least-double-requires c κs = search needs
 
--- src/serving.rt:67:9
 least-requires : tie.Need-least-requires
 least-requires c κs = search needs
 
--- src/serving.rt:68:16
 slice-relend-prefix-call : tie.Need-slice-relend-prefix-call
 slice-relend-prefix-call c = search needs
 
--- src/serving.rt:68:16
 slice-aggregate-call : tie.Need-slice-aggregate-call
 slice-aggregate-call c = sym (length-take-le _ _ (search needs))
 
--- src/serving.rt:68:33
 slice-relend-prefix-call-2 : tie.Need-slice-relend-prefix-call-2
 slice-relend-prefix-call-2 c = search needs
 
--- src/serving.rt:68:33
 slice-aggregate-call-2 : tie.Need-slice-aggregate-call-2
 slice-aggregate-call-2 c = sym (length-take-le _ _ (search needs))
 
--- src/serving.rt:68:5
 call-requires : tie.Need-call-requires
 call-requires c κs = search needs
 
--- src/serving.rt:62:1
 same-length : tie.Need-same-length
 same-length c = search needs
 
--- src/serving.rt:62:1
 same-length-2 : tie.Need-same-length-2
 same-length-2 c = search needs
 
--- src/serving.rt:62:1
 returns : tie.Need-returns
 returns c =
     let a = c .before .before .before .before .before .before .before .before .before .before .before .before .args in

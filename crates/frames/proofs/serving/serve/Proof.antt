@@ -1,66 +1,49 @@
+-- A line is served.
+-- A bad line by what print says of the refusal, a good one by what the call says. Assumes nothing.
 use borrow.Author.Needs.{needs}
 use Rattle.frames.proofs.Serves.{bad-served, good-served}
 use Rattle.frames.proofs.serving.serve.Statement.{statement}
 use Rattle.frames.proofs.serving.serve.Tie as tie
-use Rattle.frames.proofs.serving.serve.Reads as reads
-use Rattle.frames.proofs.serving.serve.Lts as lts
-use Rattle.frames.proofs.answer.print.Reads as print-reads
-use Rattle.frames.proofs.line.parse.Reads as parse-reads
-use Rattle.frames.proofs.serving.call_in_room.Reads as call-in-room-reads
-use Rattle.register.proofs.answer.Answer.refused.Reads as refused-reads
 
--- src/serving.rt:81:31
 parse-requires : tie.Need-parse-requires
 parse-requires c κs = search needs
 
--- src/serving.rt:81:22
 enum-known-frame : tie.Need-enum-known-frame
 enum-known-frame c = search needs
 
--- src/serving.rt:82:15
 enum-told : tie.Need-enum-told
 enum-told c = search needs
 
--- src/serving.rt:82:15
 refused-requires : tie.Need-refused-requires
 refused-requires c κs = search needs
 
--- src/serving.rt:82:9
 print-requires : tie.Need-print-requires
 print-requires c κs = search needs
 
--- src/serving.rt:83:9
 same-length : tie.Need-same-length
 same-length c = search needs
 
--- src/serving.rt:83:9
 returns : tie.Need-returns
 returns c =
     let a = c .before .before .before .before .before .before .before .before .before .before .before .before .args in
     bad-served (a .head) (a .words .now) (a .counts .now) (a .line .now) (a .buffer .now) _ _ _
     (c .before .before .before .before .before .enum-told .given .1) (c .before .before .before .before .before .before .before .parse .ensures) (c .before .before .before .before .refused .ensures) (c .before .before .print .ensures)
 
--- src/serving.rt:85:9
 call-in-room-requires : tie.Need-call-in-room-requires
 call-in-room-requires c κs = search needs
 
--- src/serving.rt:86:5
 print-requires-2 : tie.Need-print-requires-2
 print-requires-2 c κs = search needs
 
--- src/serving.rt:72:1
 same-length-2 : tie.Need-same-length-2
 same-length-2 c = search needs
 
--- src/serving.rt:72:1
 same-length-3 : tie.Need-same-length-3
 same-length-3 c = search needs
 
--- src/serving.rt:72:1
 same-length-4 : tie.Need-same-length-4
 same-length-4 c = search needs
 
--- src/serving.rt:72:1
 returns-2 : tie.Need-returns-2
 returns-2 c =
     let a = c .before .before .before .before .before .before .before .before .before .before .before .before .before .before .before .before .before .before .before .before .args in

@@ -1,11 +1,11 @@
+-- What is kept lies within the line's buffer.
+-- A byte is kept only where there is room. Assumes nothing.
 use Prim.Native.Nat.{_≤_, _-_}
 use mathlib.Core.Path.{_≡_}
 use lib.ListN.{length}
 use borrow.Author.Needs.{needs}
 use Rattle.program.proofs.input.keep.Statement.{statement}
 use Rattle.program.proofs.input.keep.Tie as tie
-use Rattle.program.proofs.input.keep.Reads as reads
-use Rattle.program.proofs.input.keep.Lts as lts
 
 abbrev Inv-loop : tie.InvT-loop
 Inv-loop line₀ kept part n₀ i₀ line n i = (length line ≡ length line₀) × (n ≤ length line₀)
@@ -13,47 +13,36 @@ Inv-loop line₀ kept part n₀ i₀ line n i = (length line ≡ length line₀)
 abbrev μ-loop : tie.MeasureT-loop
 μ-loop line₀ kept part n₀ i₀ line n i = length part - i
 
--- src/input.rt:27:5
 loop-holds : tie.Need-loop-holds Inv-loop μ-loop
 loop-holds c = search needs
 
--- src/input.rt:29:13
 same-length : tie.Need-same-length Inv-loop μ-loop
 same-length c = search needs
 
--- src/input.rt:29:13
 returns : tie.Need-returns Inv-loop μ-loop
 returns c = search needs
 
--- src/input.rt:31:19
 shared-slice-read-line : tie.Need-shared-slice-read-line Inv-loop μ-loop
 shared-slice-read-line c = search needs
 
--- src/input.rt:31:9
 slice-write-line : tie.Need-slice-write-line Inv-loop μ-loop
 slice-write-line c = search needs
 
--- src/input.rt:32:9
 add-n : tie.Need-add-n Inv-loop μ-loop
 add-n c = search needs
 
--- src/input.rt:33:9
 add-i : tie.Need-add-i Inv-loop μ-loop
 add-i c = search needs
 
--- src/input.rt:27:5
 loop-less : tie.Need-loop-less Inv-loop μ-loop
 loop-less c = search needs
 
--- src/input.rt:27:5
 loop-again : tie.Need-loop-again Inv-loop μ-loop
 loop-again c = search needs
 
--- src/input.rt:21:1
 same-length-2 : tie.Need-same-length-2 Inv-loop μ-loop
 same-length-2 c = search needs
 
--- src/input.rt:21:1
 returns-2 : tie.Need-returns-2 Inv-loop μ-loop
 returns-2 c = search needs
 

@@ -1,10 +1,10 @@
+-- The place lies from the start on and within the input.
+-- The loop's place never passes the input's end. Assumes nothing.
 use Prim.Native.Nat.{_≤_, _-_}
 use lib.ListN.{length}
 use borrow.Author.Needs.{needs}
 use Rattle.program.proofs.input.newline.Statement.{statement}
 use Rattle.program.proofs.input.newline.Tie as tie
-use Rattle.program.proofs.input.newline.Reads as reads
-use Rattle.program.proofs.input.newline.Lts as lts
 
 abbrev Inv-loop : tie.InvT-loop
 Inv-loop input from i₀ i = (from ≤ i) × (i ≤ length input)
@@ -12,31 +12,24 @@ Inv-loop input from i₀ i = (from ≤ i) × (i ≤ length input)
 abbrev μ-loop : tie.MeasureT-loop
 μ-loop input from i₀ i = length input - i
 
--- src/input.rt:11:5
 loop-holds : tie.Need-loop-holds Inv-loop μ-loop
 loop-holds c = search needs
 
--- src/input.rt:12:12
 shared-slice-read-if1 : tie.Need-shared-slice-read-if1 Inv-loop μ-loop
 shared-slice-read-if1 c = search needs
 
--- src/input.rt:13:13
 returns : tie.Need-returns Inv-loop μ-loop
 returns c = search needs
 
--- src/input.rt:15:9
 add-i : tie.Need-add-i Inv-loop μ-loop
 add-i c = search needs
 
--- src/input.rt:11:5
 loop-less : tie.Need-loop-less Inv-loop μ-loop
 loop-less c = search needs
 
--- src/input.rt:11:5
 loop-again : tie.Need-loop-again Inv-loop μ-loop
 loop-again c = search needs
 
--- src/input.rt:6:1
 returns-2 : tie.Need-returns-2 Inv-loop μ-loop
 returns-2 c = search needs
 
