@@ -1,0 +1,2 @@
+-- Laws of lists of lines.
+pub mod Lines

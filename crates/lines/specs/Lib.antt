@@ -1,0 +1,2 @@
+-- What a reader must believe of lists of lines.
+pub mod Room
