@@ -1,5 +1,4 @@
 -- Laws of hexadecimal fields.
-pub mod Tests
 pub mod Single
 pub mod Filling
 pub mod Reading

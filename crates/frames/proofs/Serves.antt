@@ -6,7 +6,7 @@ use mathlib.Core.Bool.{Bool, true, false}
 use mathlib.Core.List.{List, _++_}
 use native.Mathlib.Omega.{arith}
 use lib.ListN.{length, take, drop, drop-of-length-le}
-use lib.Seq.{take-all}
+use lib.Seq.{take-all, take-length, drop-length}
 use lib.Dec.{leb}
 use borrow.Author.Tests.{leb-true, leb-false}
 use Rattle.register.specs.declared.head.Head.{Head}
@@ -19,32 +19,25 @@ use Rattle.frames.specs.Parsing.{parseOf}
 use Rattle.frames.specs.Printing.{printOf}
 use Rattle.frames.specs.Serving.{callOf, slotsOf, roomOf, served, servedBy, serveOf}
 
-module _ (n : ℕ) (l : List ℕ) where
-  take-least : take (min n (length l)) l ≡ take n l
-  take-least = go (leb n (length l)) refl
-    where
-      go : (t : Bool) → leb n (length l) ≡ t → take (min n (length l)) l ≡ take n l
-      go true e =
-          let h : n ≤ length l = leb-true n (length l) e in
-          let m : min n (length l) ≡ n = omega arith in
-          rw m
-      go false e =
-          let h : length l < n = leb-false n (length l) e in
-          let m : min n (length l) ≡ length l = omega arith in
-          rw (m, take-all (length l) l (omega arith), take-all n l (omega arith))
+-- what no longer changes past a length is the same at the lesser of a number and that length
+at-the-lesser : (n k : ℕ) (part : ℕ → List ℕ) → ((j : ℕ) → k ≤ j → part j ≡ part k) → part (min n k) ≡ part n
+at-the-lesser n k part same = go (leb n k) refl
+  where
+    go : (t : Bool) → leb n k ≡ t → part (min n k) ≡ part n
+    go true e =
+        let h : n ≤ k = leb-true n k e in
+        let m : min n k ≡ n = omega arith in
+        rw m
+    go false e =
+        let h : k < n = leb-false n k e in
+        let m : min n k ≡ k = omega arith in
+        rw m (sym (same n (omega arith)))
 
-  drop-least : drop (min n (length l)) l ≡ drop n l
-  drop-least = go (leb n (length l)) refl
-    where
-      go : (t : Bool) → leb n (length l) ≡ t → drop (min n (length l)) l ≡ drop n l
-      go true e =
-          let h : n ≤ length l = leb-true n (length l) e in
-          let m : min n (length l) ≡ n = omega arith in
-          rw m
-      go false e =
-          let h : length l < n = leb-false n (length l) e in
-          let m : min n (length l) ≡ length l = omega arith in
-          rw (m, drop-of-length-le l {i = length l} (omega arith), drop-of-length-le l {i = n} (omega arith))
+take-least : (n : ℕ) (l : List ℕ) → take (min n (length l)) l ≡ take n l
+take-least n l = at-the-lesser n (length l) (λ (j : ℕ). take j l) (λ j h. take-all j l h ∙ sym (take-length l))
+
+drop-least : (n : ℕ) (l : List ℕ) → drop (min n (length l)) l ≡ drop n l
+drop-least n l = at-the-lesser n (length l) (λ (j : ℕ). drop j l) (λ j h. drop-of-length-le l h ∙ sym (drop-length l))
 
 module _ (h : Head) (ws cs : List ℕ) where
   pub lent-parts : (f : Frame) (m w c : ℕ) (a : Answer) (us vs : List ℕ) → m ≡ slotsOf h f → w ≡ min (2 * m) (length ws) → c ≡ min m (length cs) →

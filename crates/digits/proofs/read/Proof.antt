@@ -1,15 +1,16 @@
 -- A field of a line is read.
 -- The tests are those of the room that the definition asks for. Assumes nothing.
+use native.Mathlib.Omega.{arith}
+use borrow.Author.Tests.{lt-leb}
 use borrow.Author.Needs.{needs}
 use Rattle.digits.specs.Digits.{fieldOf}
-use Rattle.digits.proofs.Tests.{tests}
 use Rattle.digits.proofs.Reading.{no-room, in-room}
 use Rattle.digits.proofs.read.Statement.{statement}
 use Rattle.digits.proofs.read.Tie as tie
 
 returns : tie.Need-returns
 unfolding fieldOf
-returns c = search tests
+returns c = search (lt-leb, arith)
 
 returns-2 : tie.Need-returns-2
 returns-2 c = let a = c .before .before .before .args in no-room (a .line .now) (a .at) (a .width) (search needs) (search needs)

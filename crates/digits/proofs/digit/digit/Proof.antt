@@ -1,8 +1,9 @@
 -- A number below 16 is written as its digit.
 -- Each arm is the definition's own test. Assumes nothing.
+use native.Mathlib.Omega.{arith}
+use borrow.Author.Tests.{lt-ltb, le-ltb}
 use borrow.Author.Needs.{needs}
 use Rattle.digits.specs.Digits.{digitOf}
-use Rattle.digits.proofs.Tests.{tests}
 use Rattle.digits.proofs.digit.digit.Statement.{statement}
 use Rattle.digits.proofs.digit.digit.Tie as tie
 
@@ -20,11 +21,11 @@ add-result-2 c = search needs
 
 returns : tie.Need-returns
 unfolding digitOf
-returns c = search tests
+returns c = search (lt-ltb, le-ltb, arith)
 
 returns-2 : tie.Need-returns-2
 unfolding digitOf
-returns-2 c = search tests
+returns-2 c = search (lt-ltb, le-ltb, arith)
 
 pub digit-spec : {M : Type 1} → statement M
 digit-spec =
