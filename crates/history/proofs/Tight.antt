@@ -29,5 +29,6 @@ tight =
       head-most-live = λ h. one _;
       head-is-good = λ h. one _;
       answer-refused = λ number h. one _;
+      answer-done = λ h. one _;
       answer-absent = λ h slot p. one _;
     }

@@ -6,7 +6,7 @@ use Rattle.hash.specs.Fnv.{fnv, keyHash}
 use Rattle.register.specs.declared.head.Head.{Head}
 use Rattle.register.specs.declared.answer.Answer.{Answer}
 use Rattle.register.specs.Head.{headOf, mostLive, goodHead}
-use Rattle.register.specs.Answers.{Out, out, refusal, absentAnswer}
+use Rattle.register.specs.Answers.{Out, out, refusal, doneAnswer, absentAnswer}
 use Rattle.register.specs.Clear.{clearOf}
 use Rattle.register.specs.Find.{findOf}
 use Rattle.register.specs.Store.{storeOf}
@@ -39,4 +39,5 @@ pub record Tight : Type 0 where
   pub head-most-live : (h : Head) → One (mostLive h)
   pub head-is-good : (h : Head) → One (goodHead h)
   pub answer-refused : (number : ℕ) (h : Head) → One (refusal number h)
+  pub answer-done : (h : Head) → One (doneAnswer h)
   pub answer-absent : (h : Head) (slot p : ℕ) → One (absentAnswer h slot p)

@@ -11,9 +11,13 @@ use Rattle.register.specs.Head.{goodHead}
 abbrev pub answerOf : ℕ → ℕ → ℕ → ℕ → ℕ → Head → Answer
 answerOf number slot entry probes moved head = record { number = number; slot = slot; entry = entry; probes = probes; moved = moved; head = head }
 
--- zeros beside the number: every refusal, and what clear and check answer when done; it returns the given head
+-- a refusal with zeros; it returns the given head
 abbrev pub refusal : ℕ → Head → Answer
 refusal number head = answerOf number 0 0 0 0 head
+
+-- done with zeros, as clear and check answer
+abbrev pub doneAnswer : Head → Answer
+doneAnswer head = answerOf 0 0 0 0 0 head
 
 -- absent: the walk ended at a slot with p; the answer carries the probes
 abbrev pub absentAnswer : Head → ℕ → ℕ → Answer

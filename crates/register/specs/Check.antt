@@ -11,7 +11,7 @@ use Rattle.register.specs.declared.head.Head.{Head}
 use Rattle.register.specs.declared.answer.Answer.{Answer}
 use Rattle.register.specs.Slices.{tableOf}
 use Rattle.register.specs.Homes.{homeOf}
-use Rattle.register.specs.Answers.{refusal, openNumber}
+use Rattle.register.specs.Answers.{refusal, doneAnswer, openNumber}
 
 -- an empty slot's two words are 0
 abbrev pub emptyGood : ℕ → ℕ → Bool
@@ -47,4 +47,4 @@ accepts h t = cond (slotsGood h t 0 (h .slots)) (eqb (occupied (h .slots) t) (h 
 unfoldable pub checkOf : Head → List ℕ → List ℕ → Answer
 checkOf h ws cs =
     let n = openNumber h (length ws) (length cs) in
-    cond (eqb n 0) (cond (accepts h (tableOf ws cs)) (refusal 0 h) (refusal 6 h)) (refusal n h)
+    cond (eqb n 0) (cond (accepts h (tableOf ws cs)) (doneAnswer h) (refusal 6 h)) (refusal n h)

@@ -6,7 +6,7 @@ use lib.ListN.{length, replicate}
 use lib.Dec.{eqb}
 use Rattle.register.specs.declared.head.Head.{Head}
 use Rattle.register.specs.Head.{headOf}
-use Rattle.register.specs.Answers.{Out, out, refusal, answerOf, openNumber}
+use Rattle.register.specs.Answers.{Out, out, refusal, doneAnswer, openNumber}
 
 -- the settings M, rule and salt with live count 0
 abbrev pub newHead : ℕ → ℕ → ℕ → Head
@@ -16,4 +16,4 @@ newHead m rule salt = headOf m rule salt 0
 unfoldable pub clearOf : Head → ℕ → ℕ → ℕ → List ℕ → List ℕ → Out
 clearOf old m rule salt ws cs =
     let n = openNumber (newHead m rule salt) (length ws) (length cs) in
-    cond (eqb n 0) (out (answerOf 0 0 0 0 0 (newHead m rule salt)) (replicate (2 * m) 0) (replicate m 0)) (out (refusal n old) ws cs)
+    cond (eqb n 0) (out (doneAnswer (newHead m rule salt)) (replicate (2 * m) 0) (replicate m 0)) (out (refusal n old) ws cs)

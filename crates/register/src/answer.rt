@@ -1,7 +1,7 @@
 // What comes back: one struct for every call but census, which has its own.
 use crate::head::Head;
 ghost use mathlib.Core.Path.{_≡_};
-ghost use Rattle.register.specs.Answers.{refusal, absentAnswer};
+ghost use Rattle.register.specs.Answers.{refusal, doneAnswer, absentAnswer};
 
 #[repr(C)]
 pub struct Answer {
@@ -23,12 +23,26 @@ pub struct Census {
 }
 
 impl Answer {
-    // Zeros beside the number, and the given head: every refusal, and clear and check when done.
+    // A refusal: zeros, and the given head.
     pub fn refused(number: u8, head: Head) -> Self
         ensures { λ r. ⌜ r ≡ refusal number head ⌝ }
     {
         Answer {
             number,
+            slot: 0,
+            entry: 0,
+            probes: 0,
+            moved: 0,
+            head,
+        }
+    }
+
+    // Done with zeros, as clear and check answer.
+    pub fn done(head: Head) -> Self
+        ensures { λ r. ⌜ r ≡ doneAnswer head ⌝ }
+    {
+        Answer {
+            number: 0,
             slot: 0,
             entry: 0,
             probes: 0,

@@ -56,7 +56,7 @@ pub fn clear(
     }
     zero_words(words);
     zero_counts(counts);
-    Answer::refused(0, head)
+    Answer::done(head)
 }
 
 // The slot, entry and probes of a live identifier.
@@ -165,7 +165,7 @@ pub fn check(head: Head, words: &[u64], counts: &[u16]) -> Answer
         return Answer::refused(6, head);
     }
     if occupied(words, counts) == head.live {
-        Answer::refused(0, head)
+        Answer::done(head)
     } else {
         Answer::refused(6, head)
     }

@@ -7,7 +7,7 @@ use borrow.Author.Needs.{needs}
 use borrow.Author.Tests.{eq-eqb, ne-eqb, not-true, not-false}
 use Rattle.arrangement.specs.Table.{occupied}
 use Rattle.register.specs.Private.{Lent}
-use Rattle.register.specs.Answers.{refusal}
+use Rattle.register.specs.Answers.{refusal, doneAnswer}
 use Rattle.register.specs.Check.{checkOf, accepts}
 use Rattle.register.specs.Slices.{tableOf}
 use Rattle.register.proofs.Opened.{opened-lent}
@@ -45,16 +45,16 @@ returns-2 c =
 occupied-requires : tie.Need-occupied-requires
 occupied-requires c κs = let l = opened (c .before .before) in rw (l .counts) l
 
+done-requires : tie.Need-done-requires
+done-requires c κs = search needs
+
 refused-requires-3 : tie.Need-refused-requires-3
 refused-requires-3 c κs = search needs
-
-refused-requires-4 : tie.Need-refused-requires-4
-refused-requires-4 c κs = search needs
 
 -- past the slots, the count alone decides
 counted : (c : tie.After-occupied)
     → let a = c .before .before .before .before .before .before .before .args in
-    checkOf (a .head) (a .words .now) (a .counts .now) ≡ cond (eqb (c .occupied .result) (a .head .live)) (refusal 0 (a .head)) (refusal 6 (a .head))
+    checkOf (a .head) (a .words .now) (a .counts .now) ≡ cond (eqb (c .occupied .result) (a .head .live)) (doneAnswer (a .head)) (refusal 6 (a .head))
 unfolding checkOf accepts
 counted c =
     let judged = c .before .before in
@@ -64,10 +64,10 @@ counted c =
     rw (← judged .before .before .opening .ensures, eq-eqb _ _ (judged .before .if1 .left), ← judged .slots-good .ensures, not-false (judged .slots-good .result) (c .before .if2 .left), ← n)
 
 returns-3 : tie.Need-returns-3
-returns-3 c = rw (counted (c .before .before .before), eq-eqb _ _ (c .before .if3 .taken)) (c .refused3 .ensures)
+returns-3 c = rw (counted (c .before .before .before), eq-eqb _ _ (c .before .if3 .taken)) (c .done .ensures)
 
 returns-4 : tie.Need-returns-4
-returns-4 c = rw (counted (c .before .before .before), ne-eqb _ _ (c .before .if3 .left)) (c .refused4 .ensures)
+returns-4 c = rw (counted (c .before .before .before), ne-eqb _ _ (c .before .if3 .left)) (c .refused3 .ensures)
 
 pub check-spec : {M : Type 1} → statement M
 check-spec =
@@ -80,7 +80,7 @@ check-spec =
     refused-requires-2
     returns-2
     occupied-requires
+    done-requires
     refused-requires-3
-    refused-requires-4
     returns-3
     returns-4)

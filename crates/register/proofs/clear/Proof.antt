@@ -32,8 +32,8 @@ zero-words-requires c κs = search needs
 zero-counts-requires : tie.Need-zero-counts-requires
 zero-counts-requires c κs = search needs
 
-refused-requires-2 : tie.Need-refused-requires-2
-refused-requires-2 c κs = search needs
+done-requires : tie.Need-done-requires
+done-requires c κs = search needs
 
 same-length : tie.Need-same-length
 same-length c = search needs
@@ -53,7 +53,7 @@ returns-2 c =
     let a = c .before .before .before .before .before .before .before .before .before .before .before .before .before .before .args in
     let new = opened (c .before .before .before .before .before .before .before .before .before) in
     let l : Lent (a .slots) (a .words .now) (a .counts .now) = opened-lent _ _ _ new in
-    rw (new, c .refused2 .ensures, c .before .before .before .before .before .before .before .zero-words .ensures, c .before .before .before .zero-counts .ensures, l .words, l .counts, c .before .before .before .before .before .before .before .before .before .before .before .cleared .ensures)
+    rw (new, c .done .ensures, c .before .before .before .before .before .before .before .zero-words .ensures, c .before .before .before .zero-counts .ensures, l .words, l .counts, c .before .before .before .before .before .before .before .before .before .before .before .cleared .ensures)
 
 pub clear-spec : {M : Type 1} → statement M
 clear-spec =
@@ -65,7 +65,7 @@ clear-spec =
     returns
     zero-words-requires
     zero-counts-requires
-    refused-requires-2
+    done-requires
     same-length
     same-length-2
     returns-2)
