@@ -9,7 +9,7 @@ use lib.ListN.{length, length-replicate}
 use borrow.Author.Tests.{ltb-true, ltb-false, eqb-true}
 use Rattle.arrangement.specs.Table.{Record, Fresh, SameRecords, without}
 use Rattle.arrangement.specs.Afresh.{arranged}
-use Rattle.arrangement.proofs.Records.{same-length, without-among}
+use Rattle.arrangement.proofs.Records.{same-length, without-among, without-fresh}
 use Rattle.arrangement.proofs.Accepted.{proper-of-same}
 use Rattle.arrangement.proofs.Afresh.{exactly-one}
 use Rattle.register.specs.declared.head.Head.{Head}
@@ -26,7 +26,7 @@ use Rattle.history.specs.Calls.{Call, clear, find, store, remove, change
 use Rattle.history.specs.Live.{Live, having, headFor, insert, validClear, noneLive, hasRoom, added, renewed, afterLive, runLive, Rising, Afresh, History, ended, liveIn, Kept}
 use Rattle.history.proofs.Lookup.{Looked, is-live, is-missing, looked}
 use Rattle.history.proofs.Holding.{Holding, cleared-holding, live-found, fresh-missed, store-by, remove-by, change-by, store-full, store-done, remove-done, change-done}
-use Rattle.history.proofs.Rising.{rising-distinct, insert-among, insert-rising, without-rising, without-fresh}
+use Rattle.history.proofs.Rising.{rising-distinct, insert-among, insert-rising, without-rising}
 use Rattle.history.proofs.Asked.{find-leaves, check-leaves, census-leaves, valid-opens, clear-taken, clear-refused}
 
 -- what every call keeps, over slices of w words and c counts

@@ -7,7 +7,7 @@ use mathlib.Core.Bool.{Bool, true, false, cond}
 use mathlib.Core.Logic.{_⊎_, inl, inr, _≢_, _↔_}
 use mathlib.Core.List.{List, [], _∷_, List·Memᴰ·head, List·Memᴰ·tail, List·Memᴰ·not-nil, List·Memᴰ·cases-cons}
 use lib.Dec.{eqb, ltb}
-use borrow.Author.Tests.{ne-eqb, ltb-true, ltb-false}
+use borrow.Author.Tests.{ltb-true, ltb-false}
 use Rattle.arrangement.specs.Table.{Record, Among, Fresh, Distinct, SameRecords, without}
 use Rattle.arrangement.proofs.Records.{without-among}
 use Rattle.history.specs.Live.{insert, Rising}
@@ -86,12 +86,6 @@ without-rising x (r ∷ rs) u = go (eqb (r .identifier) x) (without-rising x rs 
     go : (b : Bool) → Rising (without x rs) → Rising (cond b (without x rs) (r ∷ without x rs))
     go true ih = ih
     go false ih = (λ q a. u .0 q ((without-among x rs q a) .0), ih)
-
-pub without-fresh : (x : ℕ) (rs : List Record) → Fresh x rs → without x rs ≡ rs
-unfolding without
-without-fresh x [] fresh = refl
-without-fresh x (r ∷ rs) fresh =
-    rw (ne-eqb (r .identifier) x (fresh r (List·Memᴰ·head refl)), without-fresh x rs (λ q a. fresh q (List·Memᴰ·tail a)))
 
 -- a set of records has one rising list
 pub rising-same : (rs qs : List Record) → Rising rs → Rising qs → SameRecords rs qs → rs ≡ qs
