@@ -15,3 +15,4 @@ pub mod Accepted
 pub mod Changed
 pub mod Afresh
 pub mod Examples
+pub mod BucketExample
