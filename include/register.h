@@ -36,7 +36,7 @@ extern "C" {
 #define REGISTER_BAD_LENGTH 2    /* words not 2M or counts not M */
 #define REGISTER_ALREADY_NAMED 3 /* store: the identifier is live; its slot, entry and probes come back */
 #define REGISTER_FULL 4          /* store: M-1 records are live */
-#define REGISTER_ABSENT 5        /* find, remove, change: the identifier is not live; the probes come back */
+#define REGISTER_ABSENT 5        /* find, remove, change: the identifier is not live; slot and probes come back */
 #define REGISTER_DAMAGED 6       /* the table is not one that the calls could have made */
 
 /* A head of zeros stands for a register that was never cleared: every call but clear answers 1 to it. */
@@ -50,7 +50,7 @@ typedef struct {
 /* The fields that a call does not name below are 0. */
 typedef struct {
     uint8_t number; /* 0 to 6 */
-    size_t slot;    /* where the record stands, was stored, or stood */
+    size_t slot;    /* where the record stands, was stored, or stood; with 5, where the walk ended */
     uint64_t entry; /* the entry stored, found, removed, or newly set */
     size_t probes;  /* the slots that the walk looked at */
     size_t moved;   /* the records that changed slot */
@@ -71,8 +71,9 @@ register_answer register_clear(register_head old, size_t slots, uint8_t rule, ui
                                uint64_t *words, size_t words_length, uint16_t *counts, size_t counts_length);
 
 /* Looks an identifier up. Writes nothing. With n live records in a table that check accepts, found takes at most n
- * probes and absent at most n+1.
- * Numbers: 0 with slot, entry, probes; 1; 2; 5 with probes; 6. */
+ * probes and absent at most n+1. There, while live is below M-1, a store of the absent identifier as the next call puts it
+ * at the slot that came back with 5, with the same probes. In any table that slot is below M, so it can be prefetched.
+ * Numbers: 0 with slot, entry, probes; 1; 2; 5 with slot, probes; 6. */
 register_answer register_find(register_head head, const uint64_t *words, size_t words_length,
                               const uint16_t *counts, size_t counts_length, uint64_t identifier);
 
@@ -82,12 +83,12 @@ register_answer register_store(register_head head, uint64_t *words, size_t words
                                uint16_t *counts, size_t counts_length, uint64_t identifier, uint64_t entry);
 
 /* Takes a record out. Records behind it move one slot back: no mark is left.
- * Numbers: 0 with slot, entry, probes, moved; 1; 2; 5 with probes; 6. */
+ * Numbers: 0 with slot, entry, probes, moved; 1; 2; 5 with slot, probes; 6. */
 register_answer register_remove(register_head head, uint64_t *words, size_t words_length,
                                 uint16_t *counts, size_t counts_length, uint64_t identifier);
 
 /* Gives a live identifier a new entry. Writes one word.
- * Numbers: 0 with slot, entry, probes; 1; 2; 5 with probes; 6. */
+ * Numbers: 0 with slot, entry, probes; 1; 2; 5 with slot, probes; 6. */
 register_answer register_change(register_head head, uint64_t *words, size_t words_length,
                                 const uint16_t *counts, size_t counts_length, uint64_t identifier, uint64_t entry);
 

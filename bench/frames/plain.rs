@@ -99,7 +99,7 @@ impl Register {
         }
         match self.walk(x) {
             End::Found(slot, probes) => Answer { slot, entry: self.words[2 * slot + 1], probes, ..Answer::default() },
-            End::Absent(_, probes) => Answer { number: 5, probes, ..Answer::default() },
+            End::Absent(slot, probes) => Answer { number: 5, slot, probes, ..Answer::default() },
             End::Endless => refused(6),
         }
     }
@@ -152,7 +152,7 @@ impl Register {
             return refused(1);
         }
         match self.walk(x) {
-            End::Absent(_, probes) => Answer { number: 5, probes, ..Answer::default() },
+            End::Absent(slot, probes) => Answer { number: 5, slot, probes, ..Answer::default() },
             End::Endless => refused(6),
             End::Found(slot, probes) => {
                 let entry = self.words[2 * slot + 1];
@@ -191,7 +191,7 @@ impl Register {
                 self.words[2 * slot + 1] = v;
                 Answer { number: 0, slot, entry: v, probes, moved: 0 }
             }
-            End::Absent(_, probes) => Answer { number: 5, probes, ..Answer::default() },
+            End::Absent(slot, probes) => Answer { number: 5, slot, probes, ..Answer::default() },
             End::Endless => refused(6),
         }
     }

@@ -13,7 +13,7 @@ fn show(call: &str, identifier: u64, fields: (u8, usize, u64, usize, usize), liv
 fn found(answer: Find) -> (u8, usize, u64, usize, usize) {
     match answer {
         Find::Found { slot, entry, probes } => (0, slot, entry, probes, 0),
-        Find::Absent { probes } => (5, 0, 0, probes, 0),
+        Find::Absent { slot, probes } => (5, slot, 0, probes, 0),
     }
 }
 
@@ -27,14 +27,14 @@ fn stored(answer: Store) -> (u8, usize, u64, usize, usize) {
 fn changed(answer: Change) -> (u8, usize, u64, usize, usize) {
     match answer {
         Change::Changed { slot, entry, probes } => (0, slot, entry, probes, 0),
-        Change::Absent { probes } => (5, 0, 0, probes, 0),
+        Change::Absent { slot, probes } => (5, slot, 0, probes, 0),
     }
 }
 
 fn removed(answer: Remove) -> (u8, usize, u64, usize, usize) {
     match answer {
         Remove::Removed { slot, entry, probes, moved } => (0, slot, entry, probes, moved),
-        Remove::Absent { probes } => (5, 0, 0, probes, 0),
+        Remove::Absent { slot, probes } => (5, slot, 0, probes, 0),
     }
 }
 

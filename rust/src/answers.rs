@@ -17,6 +17,8 @@ pub enum Find {
     },
     /// Number 5: the identifier is not live.
     Absent {
+        /// Where the walk ended: the slot at which a store of the identifier would put it.
+        slot: usize,
         /// The slots that the walk looked at.
         probes: usize,
     },
@@ -63,6 +65,8 @@ pub enum Remove {
     },
     /// Number 5: the identifier is not live.
     Absent {
+        /// Where the walk ended, as in [`Find::Absent`].
+        slot: usize,
         /// The slots that the walk looked at.
         probes: usize,
     },
@@ -82,6 +86,8 @@ pub enum Change {
     },
     /// Number 5: the identifier is not live.
     Absent {
+        /// Where the walk ended, as in [`Find::Absent`].
+        slot: usize,
         /// The slots that the walk looked at.
         probes: usize,
     },

@@ -20,7 +20,7 @@
 //! assert_eq!(jobs.store(0x08, 0xa3)?, Store::AlreadyNamed { slot: 0, entry: 0xa2, probes: 1 });
 //! assert_eq!(jobs.find(0x10)?, Find::Found { slot: 1, entry: 0xa1, probes: 2 });
 //! assert_eq!(jobs.remove(0x08)?, Remove::Removed { slot: 0, entry: 0xa2, probes: 1, moved: 1 });
-//! assert_eq!(jobs.find(0x08)?, Find::Absent { probes: 1 });
+//! assert_eq!(jobs.find(0x08)?, Find::Absent { slot: 0, probes: 1 });
 //! assert_eq!(jobs.head().live, 1);
 //! jobs.check()?;
 //! # Ok::<(), register::Refusal>(())
@@ -118,7 +118,7 @@ impl<'a> Register<'a> {
         let Answer { number, slot, entry, probes, .. } = calls::find(self.head, self.words, self.counts, identifier);
         match number {
             0 => Ok(Find::Found { slot, entry, probes }),
-            5 => Ok(Find::Absent { probes }),
+            5 => Ok(Find::Absent { slot, probes }),
             _ => Err(answers::refusal(number)),
         }
     }
@@ -143,7 +143,7 @@ impl<'a> Register<'a> {
         self.head = head;
         match number {
             0 => Ok(Remove::Removed { slot, entry, probes, moved }),
-            5 => Ok(Remove::Absent { probes }),
+            5 => Ok(Remove::Absent { slot, probes }),
             _ => Err(answers::refusal(number)),
         }
     }
@@ -154,7 +154,7 @@ impl<'a> Register<'a> {
         let Answer { number, slot, entry, probes, .. } = calls::change(self.head, self.words, self.counts, identifier, entry);
         match number {
             0 => Ok(Change::Changed { slot, entry, probes }),
-            5 => Ok(Change::Absent { probes }),
+            5 => Ok(Change::Absent { slot, probes }),
             _ => Err(answers::refusal(number)),
         }
     }

@@ -18,16 +18,39 @@ fn the_worked_session() -> Result<(), Refusal> {
     assert_eq!(jobs.store(0x01, 0xa5)?, Store::Stored { slot: 3, entry: 0xa5, probes: 3, moved: 0 });
     assert_eq!(jobs.store(0x08, 0xa6)?, Store::AlreadyNamed { slot: 1, entry: 0xa2, probes: 2 });
     assert_eq!(jobs.remove(0x07)?, Remove::Removed { slot: 7, entry: 0xa4, probes: 1, moved: 4 });
-    assert_eq!(jobs.find(0x09)?, Find::Absent { probes: 3 });
-    assert_eq!(jobs.find(0x00)?, Find::Absent { probes: 1 });
+    assert_eq!(jobs.find(0x09)?, Find::Absent { slot: 3, probes: 3 });
+    assert_eq!(jobs.find(0x00)?, Find::Absent { slot: 0, probes: 1 });
     jobs.check()?;
     assert_eq!(jobs.census()?, Census { greatest: 2, stored: 6, absent: 14 });
     assert_eq!(jobs.change(0x01, 0xb5)?, Change::Changed { slot: 2, entry: 0xb5, probes: 2 });
-    assert_eq!(jobs.change(0x09, 0xb6)?, Change::Absent { probes: 3 });
-    assert_eq!(jobs.remove(0x09)?, Remove::Absent { probes: 3 });
+    assert_eq!(jobs.change(0x09, 0xb6)?, Change::Absent { slot: 3, probes: 3 });
+    assert_eq!(jobs.remove(0x09)?, Remove::Absent { slot: 3, probes: 3 });
     assert_eq!(jobs.head(), head(8, 4, 0));
     assert_eq!(jobs.words(), [8, 0xa2, 0x10, 0xa1, 1, 0xb5, 0, 0, 0, 0, 0, 0, 0, 0, 0x0f, 0xa3]);
     assert_eq!(jobs.counts(), [1, 2, 2, 0, 0, 0, 0, 1]);
+    Ok(())
+}
+
+/// Request One: what find, remove and change say of an absent identifier is what a store then does, until M-1 are live.
+#[test]
+fn a_store_goes_where_absent_said() -> Result<(), Refusal> {
+    let (mut words, mut counts) = ([0; 122], [0; 61]);
+    for rule in [Rule::Remainder, Rule::Hashed] {
+        let mut jobs = Register::new(Head::default(), &mut words, &mut counts);
+        jobs.clear(61, rule, 7)?;
+        let mut away = 0;
+        for x in (1..61).map(|i: u64| i * i * i) {
+            let Find::Absent { slot, probes } = jobs.find(x)? else { panic!("{x} is live") };
+            assert_eq!(jobs.remove(x)?, Remove::Absent { slot, probes });
+            assert_eq!(jobs.change(x, 5)?, Change::Absent { slot, probes });
+            let Store::Stored { slot: at, probes: taken, .. } = jobs.store(x, 5)? else { panic!("{x} is live") };
+            assert_eq!((at, taken), (slot, probes));
+            away += usize::from(probes > 1);
+        }
+        assert!(away > 0);
+        assert!(matches!(jobs.find(0)?, Find::Absent { .. }));
+        assert_eq!(jobs.store(0, 5), Err(Refusal::Full));
+    }
     Ok(())
 }
 

@@ -14,6 +14,11 @@ def fnv1a(data):
     return h
 
 
+def absent(i, p):
+    """Number 5: the slot and the p at which the walk ended."""
+    return (5, i, 0, p, 0)
+
+
 class Register:
     """Head and slots; before the first accepted clear all is zero."""
 
@@ -58,7 +63,7 @@ class Register:
         if end == "damaged":
             return (6, 0, 0, 0, 0)
         if end == "absent":
-            return (5, 0, 0, p, 0)
+            return absent(i, p)
         return (0, i, self.slots[i][2], p, 0)
 
     def store(self, x, v):
@@ -99,7 +104,7 @@ class Register:
         if end == "damaged":
             return (6, 0, 0, 0, 0)
         if end == "absent":
-            return (5, 0, 0, p, 0)
+            return absent(s, p)
         others = [(s + k) % m for k in range(1, m)]
         if self.live == 0 or all(self.slots[i][0] >= 2 for i in others):
             return (6, 0, 0, 0, 0)
@@ -122,7 +127,7 @@ class Register:
         if end == "damaged":
             return (6, 0, 0, 0, 0)
         if end == "absent":
-            return (5, 0, 0, p, 0)
+            return absent(i, p)
         count, y, _ = self.slots[i]
         self.slots[i] = (count, y, v)
         return (0, i, v, p, 0)

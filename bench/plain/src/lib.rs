@@ -27,7 +27,7 @@ pub enum Refusal {
     BadLength,
     AlreadyNamed(Done),
     Full,
-    Absent { probes: usize },
+    Absent { slot: usize, probes: usize },
     Damaged,
 }
 
@@ -84,7 +84,7 @@ impl<'a, const MASKED: bool> Register<'a, MASKED> {
         self.open()?;
         match self.walk(x) {
             End::Found(slot, probes) => Ok(self.done(slot, probes, 0)),
-            End::Absent(_, probes) => Err(Refusal::Absent { probes }),
+            End::Absent(slot, probes) => Err(Refusal::Absent { slot, probes }),
             End::Endless => Err(Refusal::Damaged),
         }
     }
@@ -118,7 +118,7 @@ impl<'a, const MASKED: bool> Register<'a, MASKED> {
         self.open()?;
         let (s, p) = match self.walk(x) {
             End::Found(s, p) => (s, p),
-            End::Absent(_, probes) => return Err(Refusal::Absent { probes }),
+            End::Absent(slot, probes) => return Err(Refusal::Absent { slot, probes }),
             End::Endless => return Err(Refusal::Damaged),
         };
         if self.head.live == 0 {
@@ -139,7 +139,7 @@ impl<'a, const MASKED: bool> Register<'a, MASKED> {
                 self.words[2 * slot + 1] = entry;
                 Ok(Done { slot, entry, probes, moved: 0 })
             }
-            End::Absent(_, probes) => Err(Refusal::Absent { probes }),
+            End::Absent(slot, probes) => Err(Refusal::Absent { slot, probes }),
             End::Endless => Err(Refusal::Damaged),
         }
     }

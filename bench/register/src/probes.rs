@@ -47,7 +47,7 @@ pub fn case(slots: usize, rule: u8, load: f64) -> Probes {
         found += sums.stored as f64 / n as f64;
         absent += sums.absent as f64 / slots as f64;
         for x in random.words(slots) {
-            if let Ok(Find::Absent { probes }) = built.0.find(x) {
+            if let Ok(Find::Absent { probes, .. }) = built.0.find(x) {
                 walked += probes as f64 / slots as f64;
             }
         }

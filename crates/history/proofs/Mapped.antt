@@ -71,10 +71,10 @@ module _ (h : Head) (ws cs : List ℕ) (A : Accepted h ws cs) (x : ℕ) where
       }
 
   missed-walked : {j p : ℕ} → walkOf h (tableOf ws cs) x ≡ absent j p → Walked h ws cs x (absentAnswer h j p)
-  missed-walked {j} w =
+  missed-walked w =
       record {
         done-walk = λ z. absurd (omega arith);
-        missed-walk = λ z. (j, w);
+        missed-walk = λ z. w;
         done-bound = λ z. absurd (omega arith);
         missed-bound = λ z. absent-bound w;
       }

@@ -64,24 +64,25 @@ module _ (W : Version) (M : Mapped W) where
       let z : _≡_ {A = ℕ} 0 1 = cc in
       omega arith
 
-  -- one that invents probes or moved: on an accepted register they are the walk's and the change's own, as in the calls proved
+  -- one that invents slots, probes or moved: on an accepted register they are the walk's and the change's own, as in the calls proved
 
-  pub own-probes : (h : Head) (ws cs : List ℕ) → Accepted h ws cs → (x : ℕ) → W .find h ws cs x .probes ≡ findOf h ws cs x .probes
-  own-probes h ws cs A x = go (theMap h ws cs x) refl
+  pub own-find : (h : Head) (ws cs : List ℕ) → Accepted h ws cs → (x : ℕ)
+      → (W .find h ws cs x .slot ≡ findOf h ws cs x .slot) × (W .find h ws cs x .probes ≡ findOf h ws cs x .probes)
+  own-find h ws cs A x = go (theMap h ws cs x) refl
     where
-      go : (f : Found) → theMap h ws cs x ≡ f → W .find h ws cs x .probes ≡ findOf h ws cs x .probes
+      go : (f : Found) → theMap h ws cs x ≡ f → (W .find h ws cs x .slot ≡ findOf h ws cs x .slot) × (W .find h ws cs x .probes ≡ findOf h ws cs x .probes)
       go (live v) e =
           let a = M .finds h ws cs A x in
           let b = mapped .finds h ws cs A x in
           let p = a .walked .done-walk (a .done v .1 e .0) in
           let q = b .walked .done-walk (b .done v .1 e .0) in
-          cc
+          (cc, cc)
       go missing e =
           let a = M .finds h ws cs A x in
           let b = mapped .finds h ws cs A x in
-          let p = a .walked .missed-walk (a .missed .1 e) .1 in
-          let q = b .walked .missed-walk (b .missed .1 e) .1 in
-          cc
+          let p = a .walked .missed-walk (a .missed .1 e) in
+          let q = b .walked .missed-walk (b .missed .1 e) in
+          (cc, cc)
 
   pub own-store : (h : Head) (ws cs : List ℕ) → Accepted h ws cs → (x v : ℕ) → W .store h ws cs x v .answer .number ≡ 0
       → (W .store h ws cs x v .answer .probes ≡ storeOf h ws cs x v .answer .probes) × (W .store h ws cs x v .answer .moved ≡ storeOf h ws cs x v .answer .moved)

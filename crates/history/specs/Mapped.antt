@@ -53,7 +53,7 @@ module _ (h : Head) (ws cs : List ℕ) (x : ℕ) where
   -- find, remove and change: slot and probes are the walk's own; found takes at most n probes, absent at most n+1
   pub record Walked (a : Answer) : Type 0 where
     pub done-walk : a .number ≡ 0 → walkOf h (tableOf ws cs) x ≡ found (a .slot) (a .probes)
-    pub missed-walk : a .number ≡ 5 → (i : ℕ) × (walkOf h (tableOf ws cs) x ≡ absent i (a .probes))
+    pub missed-walk : a .number ≡ 5 → walkOf h (tableOf ws cs) x ≡ absent (a .slot) (a .probes)
     pub done-bound : a .number ≡ 0 → a .probes ≤ h .live
     pub missed-bound : a .number ≡ 5 → a .probes ≤ h .live + 1
 

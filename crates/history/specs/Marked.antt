@@ -103,9 +103,9 @@ cases =
     (2 ∷ 2 ∷ 3 ∷ 3 ∷ 0 ∷ 0 ∷ 0 ∷ 1 ∷ [])
     -- P4: 07 removed from P3: 08, 10, 01 at slots 0, 1, 2, counts 1, 2, 2; 0f at slot 7, count 1
     ∷ caseOf 4 (built 8 toP3) (remove 0x07) (says 0 7 0xa7 1 4 8 4) p4Words p4Counts
-    -- P5: find 09 in P4: absent, 3 probes
-    ∷ caseOf 5 (built 8 toP4) (find 0x09) (says 5 0 0 3 0 8 4) p4Words p4Counts
-    -- P6: find 00 in P4: absent, 1 probe
+    -- P5: find 09 in P4: absent, 3 probes, slot 3
+    ∷ caseOf 5 (built 8 toP4) (find 0x09) (says 5 3 0 3 0 8 4) p4Words p4Counts
+    -- P6: find 00 in P4: absent, 1 probe, slot 0
     ∷ caseOf 6 (built 8 toP4) (find 0x00) (says 5 0 0 1 0 8 4) p4Words p4Counts
     -- P7: M = 2, 05 stored at slot 1; store 05 gives 3, store 04 gives 4
     ∷ caseOf 7 (built 2 []) (store 0x05 0xa5) (says 0 1 0xa5 1 0 2 1) (0 ∷ 0 ∷ 0x05 ∷ 0xa5 ∷ []) (0 ∷ 1 ∷ [])
@@ -119,8 +119,8 @@ cases =
     ∷ caseOf 10 (built 8 []) (store 0xffffffffffffffff 0xaa) (says 0 7 0xaa 1 0 8 1)
     (0 ∷ 0 ∷ 0 ∷ 0 ∷ 0 ∷ 0 ∷ 0 ∷ 0 ∷ 0 ∷ 0 ∷ 0 ∷ 0 ∷ 0 ∷ 0 ∷ 0xffffffffffffffff ∷ 0xaa ∷ [])
     (0 ∷ 0 ∷ 0 ∷ 0 ∷ 0 ∷ 0 ∷ 0 ∷ 1 ∷ [])
-    -- P11: remove from a cleared register: absent, 1 probe
-    ∷ caseOf 11 (built 8 []) (remove 0x05) (says 5 0 0 1 0 8 0) (replicate 16 0) (replicate 8 0)
+    -- P11: remove from a cleared register: absent, 1 probe, the identifier's home
+    ∷ caseOf 11 (built 8 []) (remove 0x0d) (says 5 5 0 1 0 8 0) (replicate 16 0) (replicate 8 0)
     -- P12: census of P4: greatest 2, stored 6, absent total 14
     ∷ caseOf 12 (built 8 toP4) census (counted (censusAnswer 0 2 6 14 (headOf 8 0 0 4))) p4Words p4Counts
     ∷ []

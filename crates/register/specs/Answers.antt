@@ -19,9 +19,9 @@ refusal number head = answerOf number 0 0 0 0 head
 abbrev pub doneAnswer : Head → Answer
 doneAnswer head = answerOf 0 0 0 0 0 head
 
--- absent: the walk ended at a slot with p; the answer carries the probes
+-- absent: the walk ended at a slot with p, and the answer carries both (request One)
 abbrev pub absentAnswer : Head → ℕ → ℕ → Answer
-absentAnswer head slot p = answerOf 5 0 0 p 0 head
+absentAnswer head slot p = answerOf 5 slot 0 p 0 head
 
 -- an answer with both lists afterwards
 pub record Out : Type 0 where

@@ -51,13 +51,13 @@ impl Answer {
         }
     }
 
-    // Absent: what it carries of the slot and the p at which the walk ended.
+    // Absent: the slot and the p at which the walk ended.
     pub fn absent(head: Head, slot: usize, p: usize) -> Self
         ensures { λ r. ⌜ r ≡ absentAnswer head slot p ⌝ }
     {
         Answer {
             number: 5,
-            slot: 0,
+            slot,
             entry: 0,
             probes: p,
             moved: 0,

@@ -182,8 +182,8 @@ fn cleared() {
     put(b"P10 store ffffffffffffffff: ");
     store(head, &mut words, &mut counts, 0xffff_ffff_ffff_ffff, 0xb4);
     let again = eight(&mut words, &mut counts);
-    put(b"P11 remove 01: ");
-    put_answer(register::remove(again, &mut words, &mut counts, 0x01));
+    put(b"P11 remove 0d: ");
+    put_answer(register::remove(again, &mut words, &mut counts, 0x0d));
 }
 
 // A clear with slices of 2M words and M counts; the old head has live count 7.

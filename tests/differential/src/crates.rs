@@ -27,7 +27,7 @@ fn call(jobs: &mut Register<'_>, which: usize, x: u64, v: u64) -> Answer {
                 result,
                 |found| match found {
                     Find::Found { slot, entry, probes } => done(0, slot, entry, probes, 0),
-                    Find::Absent { probes } => done(5, 0, 0, probes, 0),
+                    Find::Absent { slot, probes } => done(5, slot, 0, probes, 0),
                 },
                 jobs.head(),
             )
@@ -49,7 +49,7 @@ fn call(jobs: &mut Register<'_>, which: usize, x: u64, v: u64) -> Answer {
                 result,
                 |removed| match removed {
                     Remove::Removed { slot, entry, probes, moved } => done(0, slot, entry, probes, moved),
-                    Remove::Absent { probes } => done(5, 0, 0, probes, 0),
+                    Remove::Absent { slot, probes } => done(5, slot, 0, probes, 0),
                 },
                 jobs.head(),
             )
@@ -60,7 +60,7 @@ fn call(jobs: &mut Register<'_>, which: usize, x: u64, v: u64) -> Answer {
                 result,
                 |changed| match changed {
                     Change::Changed { slot, entry, probes } => done(0, slot, entry, probes, 0),
-                    Change::Absent { probes } => done(5, 0, 0, probes, 0),
+                    Change::Absent { slot, probes } => done(5, slot, 0, probes, 0),
                 },
                 jobs.head(),
             )

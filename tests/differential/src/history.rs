@@ -172,6 +172,17 @@ impl History {
         if (words, counts) != (&self.afresh.0[..], &self.afresh.1[..]) {
             return Err(format!("{call:?} gives {reply:?}: the table is not the one worked out afresh"));
         }
-        Ok(())
+        self.says_where(call, reply)
+    }
+
+    /// The slot and probes of an absent answer, or of a record removed, are those of its identifier in the table worked out afresh with it.
+    fn says_where(&self, call: Call, reply: Reply) -> Result<(), String> {
+        let (Call::Find(x) | Call::Remove(x) | Call::Change(x, _), Reply::Answer(a)) = (call, reply) else {
+            return Ok(());
+        };
+        match self.live.would_stand(x) {
+            Some(place) if place != (a.slot, a.probes) => Err(format!("{call:?} gives {a:?}: it would stand at {place:?}")),
+            _ => Ok(()),
+        }
     }
 }

@@ -78,6 +78,17 @@ impl Live {
         }
     }
 
+    /// The slot and count that an identifier would have if it were stored now; none where it is live or M-1 are.
+    pub fn would_stand(&self, identifier: u64) -> Option<(usize, usize)> {
+        let mut with = self.clone();
+        if with.store(identifier, 0) != 0 {
+            return None;
+        }
+        let (words, counts) = with.table();
+        let slot = (0..counts.len()).find(|i| counts[*i] != 0 && words[2 * i] == identifier)?;
+        Some((slot, usize::from(counts[slot])))
+    }
+
     /// The words and counts of these records' one proper arrangement.
     pub fn table(&self) -> (Vec<u64>, Vec<u16>) {
         table(self.head.slots, &self.records)

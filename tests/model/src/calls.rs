@@ -15,6 +15,11 @@ fn refusal(number: u8, head: Head) -> Answer {
     Answer { number, head, ..Answer::default() }
 }
 
+/// Absent: the slot and the p at which the walk ended.
+fn absent(slot: usize, p: usize, head: Head) -> Answer {
+    Answer { slot, probes: p, ..refusal(5, head) }
+}
+
 /// 1, then 2, else 0.
 fn opening(head: Head, words: usize, counts: usize) -> u8 {
     let good_slots = head.slots >= 2 && head.slots <= 32_768;
@@ -63,7 +68,7 @@ pub fn find(head: Head, words: &[u64], counts: &[u16], x: u64) -> Answer {
     }
     match walk(head, words, counts, x) {
         End::Found { slot, p } => Answer { slot, entry: words[2 * slot + 1], probes: p, ..refusal(0, head) },
-        End::Absent { p, .. } => Answer { probes: p, ..refusal(5, head) },
+        End::Absent { slot, p } => absent(slot, p, head),
         End::Never => refusal(6, head),
     }
 }
@@ -108,7 +113,7 @@ pub fn remove(head: Head, words: &mut [u64], counts: &mut [u16], x: u64) -> Answ
     let m = head.slots;
     let (s, p) = match walk(head, words, counts, x) {
         End::Found { slot, p } => (slot, p),
-        End::Absent { p, .. } => return Answer { probes: p, ..refusal(5, head) },
+        End::Absent { slot, p } => return absent(slot, p, head),
         End::Never => return refusal(6, head),
     };
     let run: Vec<usize> = (1..m).map(|k| (s + k) % m).take_while(|slot| counts[*slot] >= 2).collect();

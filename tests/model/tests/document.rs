@@ -41,9 +41,9 @@ fn p1_to_p4_arrangements() {
 fn p5_p6_p12_on_p4() {
     let (h, w, c) = stored(8, &[0x0f, 0x08, 0x10, 0x01]);
     let found = calls::find(h, &w, &c, 0x09);
-    assert_eq!((found.number, found.probes), (5, 3));
+    assert_eq!((found.number, found.slot, found.probes), (5, 3, 3));
     let found = calls::find(h, &w, &c, 0x00);
-    assert_eq!((found.number, found.probes), (5, 1));
+    assert_eq!((found.number, found.slot, found.probes), (5, 0, 1));
     let sums = calls::census(h, &w, &c);
     assert_eq!((sums.greatest, sums.stored, sums.absent), (2, 6, 14));
 }
@@ -63,8 +63,8 @@ fn p7_to_p9_with_two_slots() {
 #[test]
 fn p10_p11_and_the_limits() {
     assert_eq!(home(head(8, 0), u64::MAX), 7);
-    let removed = calls::remove(head(8, 0), &mut [0; 16], &mut [0; 8], 1);
-    assert_eq!((removed.number, removed.probes), (5, 1));
+    let removed = calls::remove(head(8, 0), &mut [0; 16], &mut [0; 8], 0x0d);
+    assert_eq!((removed.number, removed.slot, removed.probes), (5, 5, 1));
     for (slots, number) in [(1, 1), (2, 0), (32_768, 0), (32_769, 1)] {
         let (mut w, mut c) = (vec![1; 2 * slots], vec![1; slots]);
         assert_eq!(calls::clear(Head::default(), slots, 1, 0, &mut w, &mut c).number, number);
@@ -81,7 +81,7 @@ fn the_worked_session() {
         (0, 3, 0xa5, 3, 0, 5),
         (3, 1, 0xa2, 2, 0, 5),
         (0, 7, 0xa4, 1, 4, 4),
-        (5, 0, 0, 3, 0, 4),
+        (5, 3, 0, 3, 0, 4),
         (0, 0, 0, 0, 0, 4),
     ];
     let (mut w, mut c) = ([7; 16], [7; 8]);
