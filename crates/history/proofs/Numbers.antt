@@ -23,6 +23,7 @@ use Rattle.register.specs.Change.{changeBy, changeOf}
 use Rattle.register.specs.Check.{accepts, checkOf}
 use Rattle.register.specs.Census.{censusAnswer, greatestOf, storedOf, absentOf, censusOf}
 use Rattle.history.proofs.Exactly.{neither}
+use Rattle.history.proofs.Cases.{tested}
 use Rattle.history.specs.Numbers.{Opening, Openings}
 
 -- neither 1 nor 2
@@ -84,8 +85,7 @@ opening-answer h w c a later = go (eqb n 0) (opening h w c later)
     go false p = p
 
 either : (b : Bool) {o u : Out} → LaterOut o → LaterOut u → LaterOut (cond b o u)
-either true p q = p
-either false p q = q
+either = tested LaterOut
 
 module _ (h : Head) (ws cs : List ℕ) where
   find-opening : (x : ℕ) → Opening h (length ws) (length cs) (findOf h ws cs x .number)

@@ -3,11 +3,10 @@
 use Prim.Native.Nat.{ℕ, _-_, _<_}
 use native.Mathlib.Omega.{arith}
 use mathlib.Core.Path.{_≡_, refl, ap, _∙_}
-use mathlib.Core.Bool.{Bool, true, false, cond}
+use mathlib.Core.Bool.{Bool, cond}
 use mathlib.Core.List.{List}
 use lib.ListN.{length}
 use lib.Dec.{eqb}
-use borrow.Author.Tests.{eqb-false}
 use Rattle.arrangement.specs.Table.{Table, rank}
 use Rattle.arrangement.specs.Walk.{End, found, absent, endless}
 use Rattle.arrangement.specs.Changes.{First, after, none, firstEmpty, firstSettled, anyFar, stored, removed, changed}
@@ -24,6 +23,7 @@ use Rattle.register.specs.Remove.{removeRun, removeBy, removeOf}
 use Rattle.register.specs.Change.{changeBy, changeOf}
 use Rattle.register.proofs.Slices.{lists-hold}
 use Rattle.history.specs.Writes.{Writes}
+use Rattle.history.proofs.Cases.{opened, tested}
 
 module _ (h : Head) (ws cs : List ℕ) where
   -- a refusal
@@ -38,16 +38,11 @@ module _ (h : Head) (ws cs : List ℕ) where
 
   -- the opening, and then the rest
   opened-writes : (o : Out) → Writes h ws cs o → let n = openNumber h (length ws) (length cs) in Writes h ws cs (cond (eqb n 0) o (out (refusal n h) ws cs))
-  opened-writes o w = go (eqb (openNumber h (length ws) (length cs)) 0) refl
-    where
-      go : (b : Bool) → eqb (openNumber h (length ws) (length cs)) 0 ≡ b → Writes h ws cs (cond b o (out (refusal (openNumber h (length ws) (length cs)) h) ws cs))
-      go true e = w
-      go false e = none-written _ (eqb-false (openNumber h (length ws) (length cs)) 0 e) refl
+  opened-writes o w = opened (Writes h ws cs) (openNumber h (length ws) (length cs)) (λ z. w) (λ n. none-written _ n refl)
 
   -- one test, both ways
   either-writes : (b : Bool) {o u : Out} → Writes h ws cs o → Writes h ws cs u → Writes h ws cs (cond b o u)
-  either-writes true w z = w
-  either-writes false w z = z
+  either-writes = tested (Writes h ws cs)
 
   six : Writes h ws cs (out (refusal 6 h) ws cs)
   six = none-written _ (λ z. omega arith) refl

@@ -2,6 +2,7 @@
 pub mod Map
 pub mod Moved
 pub mod Mapped
+pub mod Absent
 pub mod Writes
 pub mod Numbers
 pub mod Calls
