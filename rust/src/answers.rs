@@ -17,7 +17,7 @@ pub enum Find {
     },
     /// Number 5: the identifier is not live.
     Absent {
-        /// Where the walk ended: the slot at which a store of the identifier would put it.
+        /// Where the walk ended. In a table that check accepts, a store of the identifier puts it there, unless M-1 are live.
         slot: usize,
         /// The slots that the walk looked at.
         probes: usize,

@@ -25,10 +25,11 @@ use Rattle.register.specs.Remove.{removeRun, removeBy, removeOf}
 use Rattle.register.specs.Change.{changeBy, changeOf}
 use Rattle.register.proofs.Opened.{opened-good, good-head}
 use Rattle.history.specs.Map.{missing}
-use Rattle.history.specs.Mapped.{Accepted, theMap, Untouched, Walked, Version, Mapped}
+use Rattle.history.specs.Mapped.{Accepted, theMap, Untouched, Walked, Version, cited, Mapped}
 use Rattle.history.specs.Absent.{AsSaid, storedNext, SaysWhere, EndsAt, AllEndAt, RemoveCleared}
 use Rattle.history.proofs.Cases.{opened, tested}
 use Rattle.history.proofs.Holding.{cleared-holding, fresh-missed, opens-of, remove-by}
+use Rattle.history.proofs.Mapped.{mapped}
 
 -- what is followed by a store, for any version that meets demand 2
 
@@ -58,6 +59,10 @@ module _ (W : Version) (M : Mapped W) where
             let o = M .changes h ws cs A x e in
             stored-as-said h ws cs A room x v _ (o .refused (λ z. omega arith)) (o .walked) (o .missed .0 five) five;
       }
+
+-- the calls proved are such a version
+pub calls-say-where : SaysWhere cited
+calls-say-where = says-where cited mapped
 
 -- on every input
 
