@@ -2,7 +2,6 @@
 use mathlib.Core.Path.{_≡_, refl}
 use mathlib.Core.Bool.{true}
 use mathlib.Core.List.{List, [], _∷_}
-use Rattle.arrangement.specs.Table.{Record}
 use Rattle.register.specs.Head.{headOf, goodHead}
 use Rattle.history.specs.Calls.{Call, store, remove}
 use Rattle.history.specs.Live.{validClear, History, liveIn}
