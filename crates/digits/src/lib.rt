@@ -1,4 +1,6 @@
 // Lowercase hexadecimal: fields of fixed width, read from a line and written into one.
+#![tactic(auto)]
+
 mod digit;
 
 ghost use Rattle.std.specs.Prelude.{◌≡◌, ◌≤◌, ◌<◌, length};

@@ -1,4 +1,6 @@
 // The calls for C and Rust. Each is total, and its statement is the library's own.
+#![tactic(auto)]
+
 ghost use Rattle.std.specs.Prelude.{◌≡◌};
 ghost use Rattle.hash.specs.Fnv.{fnv, key_hash};
 ghost use Rattle.register.specs.Answers.{out};

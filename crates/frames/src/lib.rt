@@ -1,4 +1,6 @@
 // Lines of hexadecimal: a line parsed to a frame, an answer printed to its line, a line served.
+#![tactic(auto)]
+
 mod answer;
 mod frame;
 mod line;

@@ -1,4 +1,6 @@
 // 64-bit FNV-1a over bytes, and over a salt and an identifier.
+#![tactic(auto)]
+
 mod gather;
 mod mix;
 mod multiply;

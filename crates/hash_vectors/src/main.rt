@@ -1,4 +1,6 @@
 // The published FNV-1a vectors: each input in hexadecimal, a blank, and its hash.
+#![tactic(auto)]
+
 ghost use Rattle.std.specs.Prelude.{◌<◌};
 
 use libc::STDOUT_FILENO;

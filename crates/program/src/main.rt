@@ -1,4 +1,6 @@
 // The register as a program: frames from standard input, answer lines to standard output.
+#![tactic(auto)]
+
 mod input;
 
 use input::{Session, turn};

@@ -5,7 +5,7 @@ ghost use Rattle.register.specs.Answers.{refusal, done_answer, absent_answer};
 use crate::head::Head;
 
 #[repr(C)]
-#[derive(Drop)]
+#[derive(Clone, Copy)]
 pub struct Answer {
     pub number: u8,
     pub slot: usize,
@@ -16,7 +16,7 @@ pub struct Answer {
 }
 
 #[repr(C)]
-#[derive(Drop)]
+#[derive(Clone, Copy)]
 pub struct Census {
     pub number: u8,
     pub greatest: usize,

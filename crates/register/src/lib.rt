@@ -1,5 +1,7 @@
 // The job register: a Robin Hood table with true deletion over a head and two lent slices.
 // Each call answers on every input: any head, slices of any length, a table of junk. A refusal writes nothing.
+#![tactic(auto)]
+
 mod answer;
 mod changes;
 mod head;

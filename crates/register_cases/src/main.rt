@@ -1,5 +1,7 @@
 // The ten calls of the worked session, the twelve marked cases and the limits of M, over the public calls.
 // An answer is one line: number, slot, entry, probes, moved, live, each in hexadecimal of fixed width.
+#![tactic(auto)]
+
 ghost use Rattle.std.specs.Prelude.{◌≤◌, ◌<◌};
 
 use libc::STDOUT_FILENO;
