@@ -1,6 +1,6 @@
 -- A hash is a 64-bit number, whatever it is a hash of.
 -- By induction on the list: the start is one, and each step is a remainder by 2^64.
-use Rattle.std.proofs.Common.{ℕ, ◌%◌, ◌^◌, ◌<◌, List, [], ◌∷◌, ◌++◌, mod-lt, arith, pow_pos}
+use Rattle.std.proofs.Common.{ℕ, ◌^◌, ◌<◌, List, [], ◌∷◌, ◌++◌, mod-lt, arith, pow_pos}
 use Rattle.hash.specs.Fnv.{fnv_start, fnv_step, fnv_from, fnv, little_bytes, key_hash}
 
 step_lt : (h b : ℕ) → fnv_step h b < 2 ^ 64

@@ -1,6 +1,6 @@
 -- A byte xored into a number changes its lowest eight bits alone: the xor against its remainder form.
 -- By the law that xor works on the lowest eight digits and on the rest apart, and the rest of a byte is zero.
-use Rattle.std.proofs.Common.{◌≡◌, ℕ, ◌+◌, ◌-◌, ◌*◌, ◌/◌, ◌%◌, ◌^◌, ◌<◌, sym, ap, ◌∙◌, ap₂, mod-lt, zero-add, arith, pow_pos}
+use Rattle.std.proofs.Common.{◌≡◌, ℕ, ◌+◌, ◌/◌, ◌%◌, ◌^◌, ◌<◌, sym, ap, ◌∙◌, ap₂, mod-lt, zero-add, arith, pow_pos}
 use lib.Bits.{bit_xor, xor_block, xor_zero_r}
 use lib.Pow.{split}
 use Rattle.hash.specs.Fnv.{xor_byte_of}
