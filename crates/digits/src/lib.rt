@@ -9,7 +9,7 @@ ghost use Rattle.digits.specs.Digits.{number_from, field_of, digits_of, ended, w
 use digit::{digit, worth};
 
 // What a field holds.
-#[derive(Drop)]
+#[derive(Clone, Copy)]
 pub enum Field {
     Number(u64),
     Nothing,

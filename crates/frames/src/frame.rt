@@ -1,5 +1,5 @@
 // A call, as a line asks for it.
-#[derive(Drop)]
+#[derive(Clone, Copy)]
 pub enum Frame {
     Clear { slots: usize, rule: u8, salt: u64 },
     Store { identifier: u64, entry: u64 },
@@ -10,7 +10,7 @@ pub enum Frame {
 }
 
 // What a line yields.
-#[derive(Drop)]
+#[derive(Clone, Copy)]
 pub enum Parsed {
     Good(Frame),
     Bad,

@@ -6,7 +6,7 @@ use crate::frame::{Frame, Parsed};
 use digits::Field;
 
 // The two numbers of a line.
-#[derive(Drop)]
+#[derive(Clone, Copy)]
 pub enum Pair {
     Both(u64, u64),
     Neither,

@@ -5,7 +5,7 @@ use libc::{STDIN_FILENO, STDOUT_FILENO};
 use register::Head;
 
 // What is held from read to read: the head, how many bytes of the line in hand are kept, and whether the program is to end.
-#[derive(Drop)]
+#[derive(Clone, Copy)]
 pub struct Session {
     pub head: Head,
     pub kept: usize,

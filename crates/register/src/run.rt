@@ -8,7 +8,7 @@ ghost use Rattle.register.specs.Runs.{store_reach};
 use crate::slot::{next, wide};
 
 // How many slots after s a run ends.
-#[derive(Drop)]
+#[derive(Clone, Copy)]
 pub enum Reach {
     After(usize),
     Nowhere,

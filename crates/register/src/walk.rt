@@ -7,7 +7,7 @@ ghost use Rattle.register.specs.Private.{Lent, turn_of, end_of};
 use crate::slot::{next, wide};
 
 // What the walk does at one slot.
-#[derive(Drop)]
+#[derive(Clone, Copy)]
 pub enum Turn {
     Hit,
     Miss,
@@ -15,7 +15,7 @@ pub enum Turn {
 }
 
 // Where the walk ends: a slot and its p.
-#[derive(Drop)]
+#[derive(Clone, Copy)]
 pub enum End {
     Found(usize, usize),
     Absent(usize, usize),
