@@ -21,7 +21,7 @@ use Rattle.register.specs.Answers.{Out, open_number}
 use Rattle.register.specs.Clear.{new_head}
 use Rattle.register.proofs.Slices.{held_words, held_counts, holds_own, holds_as}
 use Rattle.register.proofs.Opened.{opened_lent}
-use Rattle.history.specs.Map.{Found, live}
+use Rattle.history.specs.Map.{Found}
 use Rattle.history.specs.Calls.{Call, clear, find, store, remove, change, check, census, State, left, after, run}
 use Rattle.history.specs.Live.{Live, having, head_for, insert, valid_clear, none_live, has_room, added, renewed, after_live, run_live, Rising, Afresh, History, ended, live_in, Kept}
 use Rattle.history.proofs.Lookup.{Looked, is_live, is_missing, looked}
@@ -172,7 +172,7 @@ kept_after {w} {c} {s} {l} K call =
 pub kept_run : {w c : ℕ} {s : State} {l : Live} → KeptAt w c s l → (calls : List Call) → KeptAt w c (run calls s) (run_live w c calls l)
 unfolding run run_live
 kept_run K [] = K
-kept_run K (call ∷ calls) = kept_run (kept_after K call) calls
+kept_run {s = s} K (call ∷ calls) = kept_run {s = after call s} (kept_after K call) calls
 
 -- a register that holds the arrangement of its live records is that arrangement, word by word and count by count
 pub afresh : {w c : ℕ} {s : State} {l : Live} → KeptAt w c s l → Afresh s l

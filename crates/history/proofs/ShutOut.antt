@@ -15,7 +15,7 @@ use Rattle.register.specs.Store.{store_of}
 use Rattle.register.specs.Remove.{remove_of}
 use Rattle.register.specs.Check.{is_slot_good, are_slots_good, accepts}
 use Rattle.history.specs.Map.{Found, live, missing, lookup}
-use Rattle.history.specs.Calls.{Call, clear, store, remove, State}
+use Rattle.history.specs.Calls.{Call, clear, store, State}
 use Rattle.history.specs.Turned.{two_slots, TurnedAway}
 use Rattle.history.specs.Live.{insert, after_live, run_live, Kept}
 use Rattle.history.specs.Mapped.{Accepted, the_map, Untouched, Version, Mapped}
