@@ -14,7 +14,7 @@ use Rattle.register.specs.Head.{good_head}
 use Rattle.register.specs.Answers.{Out, out, open_number, length_number}
 use Rattle.register.specs.Clear.{clear_of, new_head}
 use Rattle.register.proofs.Opened.{opened_lent, good_lengths}
-use Rattle.history.specs.Calls.{State, Call, clear, find, store, remove, change, check, left, after, run}
+use Rattle.history.specs.Calls.{State, Call, find, store, remove, change, check, left, after, run}
 use Rattle.history.specs.Live.{Live, none_live, after_live, valid_clear, head_for, Afresh, History, run_live}
 use Rattle.history.proofs.History.{KeptAt, kept_after, kept, afresh}
 use Rattle.frames.specs.declared.frame.Frame.{Frame}
@@ -145,7 +145,7 @@ line_held H Bad = H
 lines_held : {w c : ℕ} {r : Room} {l : Live} → Held w c r l → (lines : List (List ℕ)) → Held w c (after_lines lines r) (lines_live w c lines l)
 unfolding after_lines lines_live
 lines_held H [] = H
-lines_held H (line ∷ lines) = lines_held (line_held H (parse_of line)) lines
+lines_held {r = r} H (line ∷ lines) = lines_held {r = leaves (answered_of r.head r.words r.counts (parse_of line))} (line_held H (parse_of line)) lines
 
 pub lines_afresh : (r : Room) (line : List ℕ) (m rule salt : ℕ) (lines : List (List ℕ)) → parse_of line ≡ Good (Clear m rule salt) →
     room_clear m rule salt (length r.words) (length r.counts) ≡ true →
