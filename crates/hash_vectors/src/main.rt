@@ -3,7 +3,7 @@
 
 ghost use Rattle.std.specs.Prelude.{◌<◌};
 
-use libc::STDOUT_FILENO;
+use std::io;
 
 fn digit(n: u8) -> u8
     requires { n < 16 }
@@ -11,49 +11,49 @@ fn digit(n: u8) -> u8
     if n < 10 { n + 48 } else { n + 87 }
 }
 
-fn put_byte(b: u8) {
+fn put_byte(out: &impl Print, b: u8) -> io::Result<()> {
     let pair = [digit(b / 16), digit(b % 16)];
-    io::write_all(STDOUT_FILENO, &pair);
+    out.write_all(&pair)
 }
 
-fn put_bytes(s: &[u8]) {
-    let mut i: usize = 0;
-    while i < s.len() {
-        put_byte(s[i]);
-        i += 1;
+fn put_bytes(out: &impl Print, s: &[u8]) -> io::Result<()> {
+    for b in s {
+        put_byte(out, *b)?;
     }
+    Ok(())
 }
 
 fn low(x: u64) -> u8 {
     (x % 256) as u8
 }
 
-fn put_number(x: u64) {
+fn put_number(out: &impl Print, x: u64) -> io::Result<()> {
     let mut left: u32 = 64;
     while left >= 8 {
         left -= 8;
-        put_byte(low(x >> left));
+        put_byte(out, low(x >> left))?;
     }
+    Ok(())
 }
 
-fn vector(s: &[u8]) {
-    put_bytes(s);
-    io::write_all(STDOUT_FILENO, b" ");
-    put_number(hash::bytes(s));
-    io::write_all(STDOUT_FILENO, b"\n");
+fn vector(out: &impl Print, s: &[u8]) -> io::Result<()> {
+    put_bytes(out, s)?;
+    out.write_all(b" ")?;
+    put_number(out, hash::bytes(s))?;
+    out.write_all(b"\n")
 }
 
-fn main() {
-    vector(b"");
-    vector(b"a");
-    vector(b"b");
-    vector(b"c");
-    vector(b"d");
-    vector(b"e");
-    vector(b"f");
-    vector(b"fo");
-    vector(b"foo");
-    vector(b"foob");
-    vector(b"fooba");
-    vector(b"foobar");
+fn main(rt: HostRuntime) -> io::Result<()> {
+    vector(&rt, b"")?;
+    vector(&rt, b"a")?;
+    vector(&rt, b"b")?;
+    vector(&rt, b"c")?;
+    vector(&rt, b"d")?;
+    vector(&rt, b"e")?;
+    vector(&rt, b"f")?;
+    vector(&rt, b"fo")?;
+    vector(&rt, b"foo")?;
+    vector(&rt, b"foob")?;
+    vector(&rt, b"fooba")?;
+    vector(&rt, b"foobar")
 }

@@ -1,8 +1,11 @@
 // Input cut into lines. A line that a read leaves unfinished is kept: of a line over 36 bytes only 37, which are no frame either.
 ghost use Rattle.std.specs.Prelude.{◌≡◌, ◌≤◌, length};
 
-use libc::{STDIN_FILENO, STDOUT_FILENO};
 use register::Head;
+use std::io::{Read, Write};
+
+// How many bytes one read takes at most, and one write: many lines, so that a file takes few calls.
+const CHUNK: usize = 65536;
 
 // What is held from read to read: the head, how many bytes of the line in hand are kept, and whether the program is to end.
 #[derive(Clone, Copy)]
@@ -33,14 +36,12 @@ fn newline(input: &[u8], from: usize) -> usize
     requires { from ≤ length input.now }
     ensures { (from ≤ result) × (result ≤ length input.now) }
 {
-    let mut i = from;
-    while i < input.len() {
+    for i in from..input.len() {
         if input[i] == b'\n' {
             return i;
         }
-        i += 1;
     }
-    i
+    input.len()
 }
 
 // The line in hand with a part behind it, as far as there is room.
@@ -49,14 +50,12 @@ fn keep(line: &mut [u8], kept: usize, part: &[u8]) -> usize
     ensures { result ≤ length line.new }
 {
     let mut n = kept;
-    let mut i: usize = 0;
-    while i < part.len() {
+    for b in part {
         if line.len() <= n {
             return n;
         }
-        line[n] = part[i];
+        line[n] = *b;
         n += 1;
-        i += 1;
     }
     n
 }
@@ -85,7 +84,8 @@ fn answer(
 }
 
 // The whole lines of one read, answered and written; what is left is kept.
-fn feed(
+fn feed<W: Write>(
+    writer: &mut W,
     session: Session,
     words: &mut [u64],
     counts: &mut [u16],
@@ -102,7 +102,7 @@ fn feed(
     let mut end = newline(input, start);
     while end < input.len() {
         if output.len() - at < 40 {
-            if !io::write_all(STDOUT_FILENO, &output[..at]) {
+            if writer.write_all(&output[..at]).is_err() {
                 return held.over();
             }
             at = 0;
@@ -114,13 +114,19 @@ fn feed(
         end = newline(input, start);
     }
     let kept = keep(line, held.kept, &input[start..]);
-    let open = io::write_all(STDOUT_FILENO, &output[..at]);
+    let closed = writer.write_all(&output[..at]).is_err();
     let head = held.head;
-    Session::of(head, kept, !open)
+    Session::of(head, kept, closed)
 }
 
 // The input has ended: a last line without a newline is read if it has bytes.
-fn finish(session: Session, words: &mut [u64], counts: &mut [u16], line: &[u8])
+fn finish<W: Write>(
+    writer: &mut W,
+    session: Session,
+    words: &mut [u64],
+    counts: &mut [u16],
+    line: &[u8],
+)
     requires { session.kept ≤ length line.now }
 {
     let head = session.head;
@@ -130,24 +136,37 @@ fn finish(session: Session, words: &mut [u64], counts: &mut [u16], line: &[u8])
     }
     let mut output = [0u8; 40];
     frames::serve(head, words, counts, &line[..kept], &mut output);
-    io::write_all(STDOUT_FILENO, &output);
+    let _ = writer.write_all(&output);
 }
 
 // One read, and the answers to it. A failing read and a closed output end the session.
-pub fn turn(session: Session, words: &mut [u64], counts: &mut [u16], line: &mut [u8]) -> Session
+pub fn turn<R: Read, W: Write>(
+    reader: &mut R,
+    writer: &mut W,
+    session: Session,
+    words: &mut [u64],
+    counts: &mut [u16],
+    line: &mut [u8],
+) -> Session
     requires { session.kept ≤ length line.old }
     ensures { result.kept ≤ length line.new }
 {
-    let mut input = io::large_buffer();
-    let mut output = io::large_buffer();
-    let got = libc::read(STDIN_FILENO, &mut input);
-    if got == 0 {
-        finish(session, words, counts, line);
-        return session.over();
+    let mut input = [0u8; CHUNK];
+    let mut output = [0u8; CHUNK];
+    match reader.read(&mut input) {
+        Ok(0) => {
+            finish(writer, session, words, counts, line);
+            session.over()
+        }
+        Ok(n) => feed(
+            writer,
+            session,
+            words,
+            counts,
+            line,
+            &input[..n],
+            &mut output,
+        ),
+        Err(_) => session.over(),
     }
-    if got < 0 {
-        return session.over();
-    }
-    let n = io::count(got, &input);
-    feed(session, words, counts, line, &input[..n], &mut output)
 }

@@ -6,19 +6,26 @@ mod input;
 use input::{Session, turn};
 use register::Head;
 
-// A proved loop has to end, and nothing says that an input does: the turns count down from a number that no run uses up.
-fn main() {
+// A proved loop has to end, and nothing says that an input does: no run uses up so many turns.
+fn main(rt: HostRuntime) {
+    let mut reader = rt.stdin();
+    let mut writer = rt.stdout();
     let mut words = [0u64; 4096];
     let mut counts = [0u16; 2048];
     let mut line = [0u8; 37];
     // Before the first accepted clear the head is all zeros.
     let mut session = Session::of(Head::cleared(0, 0, 0), 0, false);
-    let mut turns = u64::MAX;
-    while turns > 0 {
-        session = turn(session, &mut words, &mut counts, &mut line);
+    for _ in 0..u64::MAX {
+        session = turn(
+            &mut reader,
+            &mut writer,
+            session,
+            &mut words,
+            &mut counts,
+            &mut line,
+        );
         if session.ended {
             return;
         }
-        turns -= 1;
     }
 }

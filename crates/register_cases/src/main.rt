@@ -4,11 +4,11 @@
 
 ghost use Rattle.std.specs.Prelude.{◌≤◌, ◌<◌};
 
-use libc::STDOUT_FILENO;
 use register::{Answer, Census, Head};
+use std::io;
 
-fn put(s: &[u8]) {
-    io::write_all(STDOUT_FILENO, s);
+fn put(out: &impl Print, s: &[u8]) -> io::Result<()> {
+    out.write_all(s)
 }
 
 fn digit(n: u8) -> u8
@@ -22,41 +22,42 @@ fn lowest(x: u64) -> u8 {
 }
 
 // The last digits of x, as many as asked for.
-fn put_number(x: u64, digits: u32)
+fn put_number(out: &impl Print, x: u64, digits: u32) -> io::Result<()>
     requires { digits ≤ 16 }
 {
     let mut left = digits;
     while left > 0 {
         left -= 1;
         let one = [lowest(x >> (4 * left))];
-        put(&one);
+        put(out, &one)?;
     }
+    Ok(())
 }
 
-fn put_field(x: u64, digits: u32)
+fn put_field(out: &impl Print, x: u64, digits: u32) -> io::Result<()>
     requires { digits ≤ 16 }
 {
-    put(b" ");
-    put_number(x, digits);
+    put(out, b" ")?;
+    put_number(out, x, digits)
 }
 
-fn put_answer(a: Answer) {
-    put_number(a.number as u64, 2);
-    put_field(a.slot as u64, 4);
-    put_field(a.entry, 16);
-    put_field(a.probes as u64, 4);
-    put_field(a.moved as u64, 4);
-    put_field(a.head.live as u64, 4);
-    put(b"\n");
+fn put_answer(out: &impl Print, a: Answer) -> io::Result<()> {
+    put_number(out, a.number as u64, 2)?;
+    put_field(out, a.slot as u64, 4)?;
+    put_field(out, a.entry, 16)?;
+    put_field(out, a.probes as u64, 4)?;
+    put_field(out, a.moved as u64, 4)?;
+    put_field(out, a.head.live as u64, 4)?;
+    put(out, b"\n")
 }
 
 // Number, greatest count, stored total and absent total.
-fn put_census(c: Census) {
-    put_number(c.number as u64, 2);
-    put_field(c.greatest as u64, 4);
-    put_field(c.stored as u64, 8);
-    put_field(c.absent as u64, 8);
-    put(b"\n");
+fn put_census(out: &impl Print, c: Census) -> io::Result<()> {
+    put_number(out, c.number as u64, 2)?;
+    put_field(out, c.greatest as u64, 4)?;
+    put_field(out, c.stored as u64, 8)?;
+    put_field(out, c.absent as u64, 8)?;
+    put(out, b"\n")
 }
 
 fn wide(x: u16) -> u64 {
@@ -64,41 +65,51 @@ fn wide(x: u16) -> u64 {
 }
 
 // Eight slots, slot 0 first: the identifier, a colon, and the count.
-fn put_table(label: &[u8], words: &[u64; 16], counts: &[u16; 8]) {
-    put(label);
-    let mut i: usize = 0;
-    while i < 8 {
-        put_field(words[2 * i], 2);
-        put(b":");
-        put_number(wide(counts[i]), 1);
-        i += 1;
+fn put_table(
+    out: &impl Print,
+    label: &[u8],
+    words: &[u64; 16],
+    counts: &[u16; 8],
+) -> io::Result<()> {
+    put(out, label)?;
+    for i in 0..8 {
+        put_field(out, words[2 * i], 2)?;
+        put(out, b":")?;
+        put_number(out, wide(counts[i]), 1)?;
     }
-    put(b"\n");
+    put(out, b"\n")
 }
 
 // A store whose answer is printed; the head comes back.
-fn store(head: Head, words: &mut [u64], counts: &mut [u16], identifier: u64, entry: u64) -> Head {
+fn store(
+    out: &impl Print,
+    head: Head,
+    words: &mut [u64],
+    counts: &mut [u16],
+    identifier: u64,
+    entry: u64,
+) -> io::Result<Head> {
     let a = register::store(head, words, counts, identifier, entry);
-    put_answer(a);
-    a.head
+    put_answer(out, a)?;
+    Ok(a.head)
 }
 
-fn session() {
+fn session(out: &impl Print) -> io::Result<()> {
     let mut words = [0u64; 16];
     let mut counts = [0u16; 8];
     let none = Head::cleared(0, 0, 0);
     let cleared = register::clear(none, 8, Head::REMAINDER, 0, &mut words, &mut counts);
-    put_answer(cleared);
-    let h1 = store(cleared.head, &mut words, &mut counts, 0x10, 0xa1);
-    let h2 = store(h1, &mut words, &mut counts, 0x08, 0xa2);
-    let h3 = store(h2, &mut words, &mut counts, 0x0f, 0xa3);
-    let h4 = store(h3, &mut words, &mut counts, 0x07, 0xa4);
-    let h5 = store(h4, &mut words, &mut counts, 0x01, 0xa5);
-    let h6 = store(h5, &mut words, &mut counts, 0x08, 0xa6);
+    put_answer(out, cleared)?;
+    let h1 = store(out, cleared.head, &mut words, &mut counts, 0x10, 0xa1)?;
+    let h2 = store(out, h1, &mut words, &mut counts, 0x08, 0xa2)?;
+    let h3 = store(out, h2, &mut words, &mut counts, 0x0f, 0xa3)?;
+    let h4 = store(out, h3, &mut words, &mut counts, 0x07, 0xa4)?;
+    let h5 = store(out, h4, &mut words, &mut counts, 0x01, 0xa5)?;
+    let h6 = store(out, h5, &mut words, &mut counts, 0x08, 0xa6)?;
     let removed = register::remove(h6, &mut words, &mut counts, 0x07);
-    put_answer(removed);
-    put_answer(register::find(removed.head, &words, &counts, 0x09));
-    put_answer(register::check(removed.head, &words, &counts));
+    put_answer(out, removed)?;
+    put_answer(out, register::find(removed.head, &words, &counts, 0x09))?;
+    put_answer(out, register::check(removed.head, &words, &counts))
 }
 
 // A register of eight slots, cleared under rule 0.
@@ -114,17 +125,17 @@ fn with(head: Head, words: &mut [u64], counts: &mut [u16], identifier: u64) -> H
     a.head
 }
 
-fn two_alike(first: u64, second: u64) {
+fn two_alike(out: &impl Print, first: u64, second: u64) -> io::Result<()> {
     let mut words = [0u64; 16];
     let mut counts = [0u16; 8];
     let h0 = eight(&mut words, &mut counts);
     let h1 = with(h0, &mut words, &mut counts, first);
     with(h1, &mut words, &mut counts, second);
-    put_table(b"P1", &words, &counts);
+    put_table(out, b"P1", &words, &counts)
 }
 
 // P2 to P4: one register after another.
-fn cluster() {
+fn cluster(out: &impl Print) -> io::Result<()> {
     let mut words = [0u64; 16];
     let mut counts = [0u16; 8];
     let h0 = eight(&mut words, &mut counts);
@@ -132,92 +143,103 @@ fn cluster() {
     let h2 = with(h1, &mut words, &mut counts, 0x0f);
     let h3 = with(h2, &mut words, &mut counts, 0x08);
     let h4 = with(h3, &mut words, &mut counts, 0x10);
-    put_table(b"P2", &words, &counts);
+    put_table(out, b"P2", &words, &counts)?;
     let h5 = with(h4, &mut words, &mut counts, 0x01);
-    put_table(b"P3", &words, &counts);
+    put_table(out, b"P3", &words, &counts)?;
     let removed = register::remove(h5, &mut words, &mut counts, 0x07);
-    put_table(b"P4", &words, &counts);
-    read(removed.head, &words, &counts);
+    put_table(out, b"P4", &words, &counts)?;
+    read(out, removed.head, &words, &counts)
 }
 
 // P5, P6 and P12: what is read of the register of P4.
-fn read(head: Head, words: &[u64; 16], counts: &[u16; 8]) {
-    put(b"P5 find 09: ");
-    put_answer(register::find(head, words, counts, 0x09));
-    put(b"P6 find 00: ");
-    put_answer(register::find(head, words, counts, 0x00));
-    put(b"P12 census: ");
-    put_census(register::census(head, words, counts));
+fn read(out: &impl Print, head: Head, words: &[u64; 16], counts: &[u16; 8]) -> io::Result<()> {
+    put(out, b"P5 find 09: ")?;
+    put_answer(out, register::find(head, words, counts, 0x09))?;
+    put(out, b"P6 find 00: ")?;
+    put_answer(out, register::find(head, words, counts, 0x00))?;
+    put(out, b"P12 census: ")?;
+    put_census(out, register::census(head, words, counts))
 }
 
 // P7: the one place of two slots.
-fn full() {
+fn full(out: &impl Print) -> io::Result<()> {
     let mut words = [0u64; 4];
     let mut counts = [0u16; 2];
     let none = Head::cleared(0, 0, 0);
     let cleared = register::clear(none, 2, Head::REMAINDER, 0, &mut words, &mut counts);
-    put(b"P7 store 05: ");
-    let h1 = store(cleared.head, &mut words, &mut counts, 0x05, 0xb1);
-    put(b"P7 store 05: ");
-    let h2 = store(h1, &mut words, &mut counts, 0x05, 0xb2);
-    put(b"P7 store 04: ");
-    store(h2, &mut words, &mut counts, 0x04, 0xb3);
+    put(out, b"P7 store 05: ")?;
+    let h1 = store(out, cleared.head, &mut words, &mut counts, 0x05, 0xb1)?;
+    put(out, b"P7 store 05: ")?;
+    let h2 = store(out, h1, &mut words, &mut counts, 0x05, 0xb2)?;
+    put(out, b"P7 store 04: ")?;
+    store(out, h2, &mut words, &mut counts, 0x04, 0xb3)?;
+    Ok(())
 }
 
 // P8 and P9: two slots, words 0, counts 2 and 2, live 0.
-fn damaged() {
+fn damaged(out: &impl Print) -> io::Result<()> {
     let words = [0u64; 4];
     let counts = [2u16; 2];
     let head = Head::cleared(2, Head::REMAINDER, 0);
-    put(b"P8 find 01: ");
-    put_answer(register::find(head, &words, &counts, 0x01));
-    put(b"P9 find 00: ");
-    put_answer(register::find(head, &words, &counts, 0x00));
+    put(out, b"P8 find 01: ")?;
+    put_answer(out, register::find(head, &words, &counts, 0x01))?;
+    put(out, b"P9 find 00: ")?;
+    put_answer(out, register::find(head, &words, &counts, 0x00))
 }
 
 // P10 and P11: the identifier of all ones, and a remove from a cleared register.
-fn cleared() {
+fn cleared(out: &impl Print) -> io::Result<()> {
     let mut words = [0u64; 16];
     let mut counts = [0u16; 8];
     let head = eight(&mut words, &mut counts);
-    put(b"P10 store ffffffffffffffff: ");
-    store(head, &mut words, &mut counts, 0xffff_ffff_ffff_ffff, 0xb4);
+    put(out, b"P10 store ffffffffffffffff: ")?;
+    store(
+        out,
+        head,
+        &mut words,
+        &mut counts,
+        0xffff_ffff_ffff_ffff,
+        0xb4,
+    )?;
     let again = eight(&mut words, &mut counts);
-    put(b"P11 remove 0d: ");
-    put_answer(register::remove(again, &mut words, &mut counts, 0x0d));
+    put(out, b"P11 remove 0d: ")?;
+    put_answer(out, register::remove(again, &mut words, &mut counts, 0x0d))
 }
 
 // A clear with slices of 2M words and M counts; the old head has live count 7.
-fn limit(m: usize)
+fn limit(out: &impl Print, m: usize) -> io::Result<()>
     requires { m ≤ 32769 }
 {
     let mut words = [0u64; 65538];
     let mut counts = [0u16; 32769];
     let none = Head::cleared(0, 0, 0);
     let old = none.with_live(7);
-    put(b"clear M =");
-    put_field(m as u64, 4);
-    put(b": ");
-    put_answer(register::clear(
-        old,
-        m,
-        Head::REMAINDER,
-        0,
-        &mut words[..2 * m],
-        &mut counts[..m],
-    ));
+    put(out, b"clear M =")?;
+    put_field(out, m as u64, 4)?;
+    put(out, b": ")?;
+    put_answer(
+        out,
+        register::clear(
+            old,
+            m,
+            Head::REMAINDER,
+            0,
+            &mut words[..2 * m],
+            &mut counts[..m],
+        ),
+    )
 }
 
-fn main() {
-    session();
-    two_alike(0x08, 0x10);
-    two_alike(0x10, 0x08);
-    cluster();
-    full();
-    damaged();
-    cleared();
-    limit(1);
-    limit(2);
-    limit(32768);
-    limit(32769);
+fn main(rt: HostRuntime) -> io::Result<()> {
+    session(&rt)?;
+    two_alike(&rt, 0x08, 0x10)?;
+    two_alike(&rt, 0x10, 0x08)?;
+    cluster(&rt)?;
+    full(&rt)?;
+    damaged(&rt)?;
+    cleared(&rt)?;
+    limit(&rt, 1)?;
+    limit(&rt, 2)?;
+    limit(&rt, 32768)?;
+    limit(&rt, 32769)
 }
