@@ -1,6 +1,6 @@
 -- Two buckets of two places, computed: a proper arrangement in which a record has passed a full bucket, so that no premise over b is empty.
 -- Each fact is one of four, a place at a time.
-use Prim.Native.Nat.{ℕ, zero, suc, ◌+◌, ◌%◌, ◌≤◌, ◌<◌}
+use Prim.Native.Nat.{ℕ, zero, suc, ◌%◌, ◌≤◌, ◌<◌}
 use native.Mathlib.Nat.{mod-lt}
 use native.Mathlib.Omega.{arith}
 use mathlib.Core.Path.{◌≡◌, refl, sym, ap, subst, ◌∙◌}

@@ -1,6 +1,6 @@
 // One slot of the two lent slices, and its neighbours around the end.
 ghost use Rattle.std.specs.Prelude.{◌≡◌, ◌+◌, ◌*◌, ◌-◌, ◌<◌, length, get_or, set};
-ghost use Rattle.arrangement.specs.Changes.{next as next_of, prior as priorOf};
+ghost use Rattle.arrangement.specs.Changes.{next as next_of, prior as prior_of};
 
 pub fn wide(x: u16) -> usize
     ensures { (result ≡ x) × (result < 65536) }
@@ -18,7 +18,7 @@ pub fn next(m: usize, i: usize) -> usize
 
 pub fn prior(m: usize, i: usize) -> usize
     requires { i < m }
-    ensures { (result ≡ priorOf m i) × (result < m) }
+    ensures { (result ≡ prior_of m i) × (result < m) }
 {
     if i == 0 { m - 1 } else { i - 1 }
 }

@@ -1,6 +1,6 @@
 // check's judgement of each slot, from that slot and the one before it, and its count of the occupied slots.
 ghost use Rattle.std.specs.Prelude.{◌≡◌, ◌≤◌, ◌<◌, length};
-ghost use Rattle.arrangement.specs.Table.{occupied as occupiedOf};
+ghost use Rattle.arrangement.specs.Table.{occupied as occupied_of};
 ghost use Rattle.arrangement.specs.Proper.{slot_at};
 ghost use Rattle.register.specs.Slices.{table_of};
 ghost use Rattle.register.specs.Private.{Lent};
@@ -77,7 +77,7 @@ pub fn slots_good(head: Head, words: &[u64], counts: &[u16]) -> bool
 
 pub fn occupied(words: &[u64], counts: &[u16]) -> usize
     requires { Lent (length counts.now) words.now counts.now }
-    ensures { result ≡ occupiedOf (length counts.now) (table_of words.now counts.now) }
+    ensures { result ≡ occupied_of (length counts.now) (table_of words.now counts.now) }
 {
     let mut n: usize = 0;
     let mut i: usize = 0;

@@ -1,6 +1,6 @@
 // The walk for an identifier from its home.
 ghost use Rattle.std.specs.Prelude.{◌≡◌, ◌+◌, ◌*◌, ◌<◌, length};
-ghost use Rattle.arrangement.specs.Walk.{turn as turnAt, walk as walkAt};
+ghost use Rattle.arrangement.specs.Walk.{turn as turn_at, walk as walk_at};
 ghost use Rattle.register.specs.Slices.{table_of};
 ghost use Rattle.register.specs.Private.{Lent, turn_of, end_of};
 
@@ -25,7 +25,7 @@ pub enum End {
 // A count decides alone unless it equals p; only then is the identifier read.
 pub fn look(words: &[u64], counts: &[u16], i: usize, p: usize, x: u64) -> Turn
     requires { (i < length counts.now) × (2 * i + 1 < length words.now) }
-    ensures { turn_of result ≡ turnAt p x (table_of words.now counts.now i) }
+    ensures { turn_of result ≡ turn_at p x (table_of words.now counts.now i) }
 {
     let c = wide(counts[i]);
     if c < p {
@@ -43,7 +43,7 @@ pub fn look(words: &[u64], counts: &[u16], i: usize, p: usize, x: u64) -> Turn
 
 pub fn walk(words: &[u64], counts: &[u16], m: usize, home: usize, x: u64) -> End
     requires { Lent m words.now counts.now × (home < m) }
-    ensures { end_of result ≡ walkAt m home x (table_of words.now counts.now) }
+    ensures { end_of result ≡ walk_at m home x (table_of words.now counts.now) }
 {
     let mut i = home;
     let mut p: usize = 1;
