@@ -4,3 +4,4 @@ pub mod Filling
 pub mod Reading
 pub mod Placing
 pub mod Back
+pub mod Tight

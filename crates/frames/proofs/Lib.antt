@@ -5,3 +5,4 @@ pub mod Only
 pub mod Buffers
 pub mod Serves
 pub mod Room
+pub mod Tight

@@ -1,0 +1,2 @@
+-- What is shown of the exported calls.
+pub mod Tight

@@ -1,0 +1,2 @@
+-- When a function's own contract determines what comes back.
+pub mod Determined
