@@ -1,6 +1,6 @@
 -- The product of two numbers of two digits each in base P, kept modulo P * P, from three products of digits.
 -- By multiplying out: the fourth product is a multiple of P * P, and the wrapping adds drop the others.
-use Rattle.std.proofs.Common.{◌≡◌, ℕ, ◌+◌, ◌*◌, ◌/◌, ◌%◌, ◌^◌, ◌<◌, sym, refl, ◌∙◌, lt_of_le_of_lt, le_of_lt, add_assoc, mul_assoc, mul_comm, add-mul, add_comm, mul-le-mul_left, div-add-mod', mul-add, mul_left_comm, arith}
+use Rattle.std.proofs.Common.{◌≡◌, ℕ, ◌+◌, ◌*◌, ◌/◌, ◌%◌, ◌^◌, sym, refl, ◌∙◌, add_assoc, mul_assoc, mul_comm, add-mul, add_comm, div-add-mod', mul-add, mul_left_comm}
 use native.Mathlib.Nat.{add_left_comm, mod-add-mod, add-mod-mod, mul-add-mod_self_right}
 
 multiplied_out : (P a₀ a₁ b₀ b₁ : ℕ) → (a₁ * P + a₀) * (b₁ * P + b₀) ≡ a₁ * b₁ * (P * P) + (a₀ * b₀ + a₁ * b₀ * P + a₀ * b₁ * P)
@@ -15,7 +15,3 @@ wraps P a₀ a₁ b₀ b₁ =
 pub wrapped : (a b : ℕ)
     → (((a % 2 ^ 32) * (b % 2 ^ 32) + ((a / 2 ^ 32) * (b % 2 ^ 32) * 2 ^ 32) % 2 ^ 64) % 2 ^ 64 + ((a % 2 ^ 32) * (b / 2 ^ 32) * 2 ^ 32) % 2 ^ 64) % 2 ^ 64 ≡ (a * b) % 2 ^ 64
 wrapped a b = wraps (2 ^ 32) (a % 2 ^ 32) (a / 2 ^ 32) (b % 2 ^ 32) (b / 2 ^ 32) ∙ rw (div-add-mod' a (2 ^ 32), div-add-mod' b (2 ^ 32))
-
--- a product of two halves has 64 bits
-pub halves_fit : {x y : ℕ} → x < 2 ^ 32 → y < 2 ^ 32 → x * y < 2 ^ 64
-halves_fit {x} {y} hx hy = lt_of_le_of_lt (mul-le-mul_left x (le_of_lt hy)) (omega arith)

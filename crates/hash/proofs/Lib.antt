@@ -1,3 +1,4 @@
+mod Folded
 mod Halves
 pub mod Range
 mod Xor

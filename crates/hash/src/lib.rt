@@ -1,11 +1,10 @@
 // 64-bit FNV-1a over bytes, and over a salt and an identifier.
 #![tactic(auto)]
 
-mod gather;
 mod mix;
 mod multiply;
 
-ghost use Rattle.std.specs.Prelude.{◌≡◌};
+ghost use Rattle.std.specs.Prelude.{◌≡◌, fold};
 ghost use Rattle.hash.specs.Fnv.{fnv, fnv_step, key_hash};
 
 const START: u64 = 0xcbf2_9ce4_8422_2325;
@@ -23,19 +22,12 @@ fn step(h: u64, b: u8) -> u64
 pub fn bytes(s: &[u8]) -> u64
     ensures { result ≡ fnv s.now }
 {
-    let mut h = START;
-    let mut i: usize = 0;
-    while i < s.len() {
-        h = step(h, s[i]);
-        i += 1;
-    }
-    h
+    s.iter().fold(START, |h, &b| step(h, b))
 }
 
 // The hash of a salt and then an identifier, each least significant byte first.
 pub fn key(salt: u64, id: u64) -> u64
     ensures { result ≡ key_hash salt id }
 {
-    let gathered = gather::sixteen(salt, id);
-    bytes(&gathered)
+    bytes([salt.to_le_bytes(), id.to_le_bytes()].as_flattened())
 }

@@ -4,6 +4,7 @@ ghost use Rattle.std.specs.Prelude.{◌≡◌, ◌*◌, ◌%◌, ◌^◌};
 const HALF: u64 = 0x1_0000_0000;
 
 // Each number is cut into halves; a cross product is shifted before it is added, so that the compiler makes one multiply.
+// The method `wrapping_add` misses the bar of speed: with it the compiler makes two multiplies a byte, 1.7 times plain Rust (bench/hash).
 pub fn wrapping(a: u64, b: u64) -> u64
     ensures { result ≡ (a * b) % 2 ^ 64 }
 {

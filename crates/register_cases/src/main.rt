@@ -1,209 +1,185 @@
 // The ten calls of the worked session, the twelve marked cases and the limits of M, over the public calls.
-// An answer is one line: number, slot, entry, probes, moved, live, each in hexadecimal of fixed width.
 #![tactic(auto)]
 
-ghost use Rattle.std.specs.Prelude.{◌≤◌, ◌<◌};
+ghost use Rattle.std.specs.Prelude.{◌≤◌};
 
 use register::{Answer, Census, Head};
-use std::io;
+use std::{fmt, io};
 
-fn put(out: &impl Print, s: &[u8]) -> io::Result<()> {
-    out.write_all(s)
-}
+// Number, slot, entry, probes, moved, live, each in hexadecimal of fixed width.
+#[derive(Clone, Copy)]
+struct AnswerLine(Answer);
 
-fn digit(n: u8) -> u8
-    requires { n < 16 }
-{
-    if n < 10 { n + 48 } else { n + 87 }
-}
-
-fn lowest(x: u64) -> u8 {
-    digit((x % 16) as u8)
-}
-
-// The last digits of x, as many as asked for.
-fn put_number(out: &impl Print, x: u64, digits: u32) -> io::Result<()>
-    requires { digits ≤ 16 }
-{
-    let mut left = digits;
-    while left > 0 {
-        left -= 1;
-        let one = [lowest(x >> (4 * left))];
-        put(out, &one)?;
+impl fmt::Display for AnswerLine {
+    fn fmt<W: fmt::Write>(&self, f: &mut fmt::Formatter<W>) -> fmt::Result {
+        let a = self.0;
+        write!(f, "{:02x} {:04x} {:016x}", a.number, a.slot, a.entry)?;
+        write!(f, " {:04x} {:04x} {:04x}", a.probes, a.moved, a.head.live)
     }
-    Ok(())
-}
-
-fn put_field(out: &impl Print, x: u64, digits: u32) -> io::Result<()>
-    requires { digits ≤ 16 }
-{
-    put(out, b" ")?;
-    put_number(out, x, digits)
-}
-
-fn put_answer(out: &impl Print, a: Answer) -> io::Result<()> {
-    put_number(out, a.number as u64, 2)?;
-    put_field(out, a.slot as u64, 4)?;
-    put_field(out, a.entry, 16)?;
-    put_field(out, a.probes as u64, 4)?;
-    put_field(out, a.moved as u64, 4)?;
-    put_field(out, a.head.live as u64, 4)?;
-    put(out, b"\n")
 }
 
 // Number, greatest count, stored total and absent total.
-fn put_census(out: &impl Print, c: Census) -> io::Result<()> {
-    put_number(out, c.number as u64, 2)?;
-    put_field(out, c.greatest as u64, 4)?;
-    put_field(out, c.stored as u64, 8)?;
-    put_field(out, c.absent as u64, 8)?;
-    put(out, b"\n")
+#[derive(Clone, Copy)]
+struct CensusLine(Census);
+
+impl fmt::Display for CensusLine {
+    fn fmt<W: fmt::Write>(&self, f: &mut fmt::Formatter<W>) -> fmt::Result {
+        let c = self.0;
+        write!(
+            f,
+            "{:02x} {:04x} {:08x} {:08x}",
+            c.number, c.greatest, c.stored, c.absent
+        )
+    }
 }
 
-fn wide(x: u16) -> u64 {
-    x as u64
+// A register of M slots under rule 0, and the W = 2M words that it lends to each call.
+#[derive(Drop)]
+struct Register<const W: usize, const M: usize> {
+    head: Head,
+    words: [u64; W],
+    counts: [u16; M],
+}
+
+impl<const W: usize, const M: usize> Register<W, M> {
+    fn new() -> Self {
+        Register {
+            head: Head::cleared(0, 0, 0),
+            words: [0; W],
+            counts: [0; M],
+        }
+    }
+
+    fn clear(&mut self) -> AnswerLine {
+        let a = register::clear(
+            self.head,
+            M,
+            Head::REMAINDER,
+            0,
+            &mut self.words,
+            &mut self.counts,
+        );
+        self.head = a.head;
+        AnswerLine(a)
+    }
+
+    fn store(&mut self, identifier: u64, entry: u64) -> AnswerLine {
+        let a = register::store(
+            self.head,
+            &mut self.words,
+            &mut self.counts,
+            identifier,
+            entry,
+        );
+        self.head = a.head;
+        AnswerLine(a)
+    }
+
+    fn remove(&mut self, identifier: u64) -> AnswerLine {
+        let a = register::remove(self.head, &mut self.words, &mut self.counts, identifier);
+        self.head = a.head;
+        AnswerLine(a)
+    }
+
+    fn find(&self, identifier: u64) -> AnswerLine {
+        AnswerLine(register::find(self.head, &self.words, &self.counts, identifier))
+    }
+
+    fn check(&self) -> AnswerLine {
+        AnswerLine(register::check(self.head, &self.words, &self.counts))
+    }
+
+    fn census(&self) -> CensusLine {
+        CensusLine(register::census(self.head, &self.words, &self.counts))
+    }
 }
 
 // Eight slots, slot 0 first: the identifier, a colon, and the count.
-fn put_table(
-    out: &impl Print,
-    label: &[u8],
-    words: &[u64; 16],
-    counts: &[u16; 8],
-) -> io::Result<()> {
-    put(out, label)?;
-    for i in 0..8 {
-        put_field(out, words[2 * i], 2)?;
-        put(out, b":")?;
-        put_number(out, wide(counts[i]), 1)?;
+impl fmt::Display for Register<16, 8> {
+    fn fmt<W: fmt::Write>(&self, f: &mut fmt::Formatter<W>) -> fmt::Result {
+        for i in 0..8 {
+            write!(f, " {:02x}:{:x}", self.words[2 * i], self.counts[i])?;
+        }
+        Ok(())
     }
-    put(out, b"\n")
-}
-
-// A store whose answer is printed; the head comes back.
-fn store(
-    out: &impl Print,
-    head: Head,
-    words: &mut [u64],
-    counts: &mut [u16],
-    identifier: u64,
-    entry: u64,
-) -> io::Result<Head> {
-    let a = register::store(head, words, counts, identifier, entry);
-    put_answer(out, a)?;
-    Ok(a.head)
 }
 
 fn session(out: &impl Print) -> io::Result<()> {
-    let mut words = [0u64; 16];
-    let mut counts = [0u16; 8];
-    let none = Head::cleared(0, 0, 0);
-    let cleared = register::clear(none, 8, Head::REMAINDER, 0, &mut words, &mut counts);
-    put_answer(out, cleared)?;
-    let h1 = store(out, cleared.head, &mut words, &mut counts, 0x10, 0xa1)?;
-    let h2 = store(out, h1, &mut words, &mut counts, 0x08, 0xa2)?;
-    let h3 = store(out, h2, &mut words, &mut counts, 0x0f, 0xa3)?;
-    let h4 = store(out, h3, &mut words, &mut counts, 0x07, 0xa4)?;
-    let h5 = store(out, h4, &mut words, &mut counts, 0x01, 0xa5)?;
-    let h6 = store(out, h5, &mut words, &mut counts, 0x08, 0xa6)?;
-    let removed = register::remove(h6, &mut words, &mut counts, 0x07);
-    put_answer(out, removed)?;
-    put_answer(out, register::find(removed.head, &words, &counts, 0x09))?;
-    put_answer(out, register::check(removed.head, &words, &counts))
+    let mut register = Register::<16, 8>::new();
+    println!(out; "{}", register.clear())?;
+    let records = [
+        (0x10, 0xa1),
+        (0x08, 0xa2),
+        (0x0f, 0xa3),
+        (0x07, 0xa4),
+        (0x01, 0xa5),
+        (0x08, 0xa6),
+    ];
+    for (identifier, entry) in records {
+        println!(out; "{}", register.store(identifier, entry))?;
+    }
+    println!(out; "{}", register.remove(0x07))?;
+    println!(out; "{}", register.find(0x09))?;
+    println!(out; "{}", register.check())
 }
 
-// A register of eight slots, cleared under rule 0.
-fn eight(words: &mut [u64], counts: &mut [u16]) -> Head {
-    let none = Head::cleared(0, 0, 0);
-    let a = register::clear(none, 8, Head::REMAINDER, 0, words, counts);
-    a.head
+// P1: the two records in the order given.
+fn two_alike(out: &impl Print, identifiers: [u64; 2]) -> io::Result<()> {
+    let mut register = Register::<16, 8>::new();
+    register.clear();
+    for identifier in identifiers {
+        register.store(identifier, 0);
+    }
+    println!(out; "P1{register}")
 }
 
-// A store with entry 0, not printed.
-fn with(head: Head, words: &mut [u64], counts: &mut [u16], identifier: u64) -> Head {
-    let a = register::store(head, words, counts, identifier, 0);
-    a.head
-}
-
-fn two_alike(out: &impl Print, first: u64, second: u64) -> io::Result<()> {
-    let mut words = [0u64; 16];
-    let mut counts = [0u16; 8];
-    let h0 = eight(&mut words, &mut counts);
-    let h1 = with(h0, &mut words, &mut counts, first);
-    with(h1, &mut words, &mut counts, second);
-    put_table(out, b"P1", &words, &counts)
-}
-
-// P2 to P4: one register after another.
+// P2 to P6 and P12: one register after another, and what is read of that of P4.
 fn cluster(out: &impl Print) -> io::Result<()> {
-    let mut words = [0u64; 16];
-    let mut counts = [0u16; 8];
-    let h0 = eight(&mut words, &mut counts);
-    let h1 = with(h0, &mut words, &mut counts, 0x07);
-    let h2 = with(h1, &mut words, &mut counts, 0x0f);
-    let h3 = with(h2, &mut words, &mut counts, 0x08);
-    let h4 = with(h3, &mut words, &mut counts, 0x10);
-    put_table(out, b"P2", &words, &counts)?;
-    let h5 = with(h4, &mut words, &mut counts, 0x01);
-    put_table(out, b"P3", &words, &counts)?;
-    let removed = register::remove(h5, &mut words, &mut counts, 0x07);
-    put_table(out, b"P4", &words, &counts)?;
-    read(out, removed.head, &words, &counts)
-}
-
-// P5, P6 and P12: what is read of the register of P4.
-fn read(out: &impl Print, head: Head, words: &[u64; 16], counts: &[u16; 8]) -> io::Result<()> {
-    put(out, b"P5 find 09: ")?;
-    put_answer(out, register::find(head, words, counts, 0x09))?;
-    put(out, b"P6 find 00: ")?;
-    put_answer(out, register::find(head, words, counts, 0x00))?;
-    put(out, b"P12 census: ")?;
-    put_census(out, register::census(head, words, counts))
+    let mut register = Register::<16, 8>::new();
+    register.clear();
+    for identifier in [0x07, 0x0f, 0x08, 0x10] {
+        register.store(identifier, 0);
+    }
+    println!(out; "P2{register}")?;
+    register.store(0x01, 0);
+    println!(out; "P3{register}")?;
+    register.remove(0x07);
+    println!(out; "P4{register}")?;
+    println!(out; "P5 find 09: {}", register.find(0x09))?;
+    println!(out; "P6 find 00: {}", register.find(0x00))?;
+    println!(out; "P12 census: {}", register.census())
 }
 
 // P7: the one place of two slots.
 fn full(out: &impl Print) -> io::Result<()> {
-    let mut words = [0u64; 4];
-    let mut counts = [0u16; 2];
-    let none = Head::cleared(0, 0, 0);
-    let cleared = register::clear(none, 2, Head::REMAINDER, 0, &mut words, &mut counts);
-    put(out, b"P7 store 05: ")?;
-    let h1 = store(out, cleared.head, &mut words, &mut counts, 0x05, 0xb1)?;
-    put(out, b"P7 store 05: ")?;
-    let h2 = store(out, h1, &mut words, &mut counts, 0x05, 0xb2)?;
-    put(out, b"P7 store 04: ")?;
-    store(out, h2, &mut words, &mut counts, 0x04, 0xb3)?;
-    Ok(())
+    let mut register = Register::<4, 2>::new();
+    register.clear();
+    println!(out; "P7 store 05: {}", register.store(0x05, 0xb1))?;
+    println!(out; "P7 store 05: {}", register.store(0x05, 0xb2))?;
+    println!(out; "P7 store 04: {}", register.store(0x04, 0xb3))
 }
 
 // P8 and P9: two slots, words 0, counts 2 and 2, live 0.
 fn damaged(out: &impl Print) -> io::Result<()> {
-    let words = [0u64; 4];
-    let counts = [2u16; 2];
-    let head = Head::cleared(2, Head::REMAINDER, 0);
-    put(out, b"P8 find 01: ")?;
-    put_answer(out, register::find(head, &words, &counts, 0x01))?;
-    put(out, b"P9 find 00: ")?;
-    put_answer(out, register::find(head, &words, &counts, 0x00))
+    let register = Register::<4, 2> {
+        head: Head::cleared(2, Head::REMAINDER, 0),
+        words: [0; 4],
+        counts: [2; 2],
+    };
+    println!(out; "P8 find 01: {}", register.find(0x01))?;
+    println!(out; "P9 find 00: {}", register.find(0x00))
 }
 
 // P10 and P11: the identifier of all ones, and a remove from a cleared register.
 fn cleared(out: &impl Print) -> io::Result<()> {
-    let mut words = [0u64; 16];
-    let mut counts = [0u16; 8];
-    let head = eight(&mut words, &mut counts);
-    put(out, b"P10 store ffffffffffffffff: ")?;
-    store(
-        out,
-        head,
-        &mut words,
-        &mut counts,
-        0xffff_ffff_ffff_ffff,
-        0xb4,
+    let mut register = Register::<16, 8>::new();
+    register.clear();
+    println!(out;
+        "P10 store ffffffffffffffff: {}",
+        register.store(u64::MAX, 0xb4)
     )?;
-    let again = eight(&mut words, &mut counts);
-    put(out, b"P11 remove 0d: ")?;
-    put_answer(out, register::remove(again, &mut words, &mut counts, 0x0d))
+    register.clear();
+    println!(out; "P11 remove 0d: {}", register.remove(0x0d))
 }
 
 // A clear with slices of 2M words and M counts; the old head has live count 7.
@@ -212,28 +188,22 @@ fn limit(out: &impl Print, m: usize) -> io::Result<()>
 {
     let mut words = [0u64; 65538];
     let mut counts = [0u16; 32769];
-    let none = Head::cleared(0, 0, 0);
-    let old = none.with_live(7);
-    put(out, b"clear M =")?;
-    put_field(out, m as u64, 4)?;
-    put(out, b": ")?;
-    put_answer(
-        out,
-        register::clear(
-            old,
-            m,
-            Head::REMAINDER,
-            0,
-            &mut words[..2 * m],
-            &mut counts[..m],
-        ),
-    )
+    let old = Head::cleared(0, 0, 0).with_live(7);
+    let a = register::clear(
+        old,
+        m,
+        Head::REMAINDER,
+        0,
+        &mut words[..2 * m],
+        &mut counts[..m],
+    );
+    println!(out; "clear M = {m:04x}: {}", AnswerLine(a))
 }
 
 fn main(rt: HostRuntime) -> io::Result<()> {
     session(&rt)?;
-    two_alike(&rt, 0x08, 0x10)?;
-    two_alike(&rt, 0x10, 0x08)?;
+    two_alike(&rt, [0x08, 0x10])?;
+    two_alike(&rt, [0x10, 0x08])?;
     cluster(&rt)?;
     full(&rt)?;
     damaged(&rt)?;
