@@ -1,7 +1,5 @@
 -- Lowercase hexadecimal and fields of fixed width: document 01, "Frames". Assumes nothing.
-use Rattle.std.specs.Prelude.{ℕ, zero, suc, ◌+◌, ◌-◌, ◌*◌, ◌/◌, ◌%◌, cond, List, [], ◌∷◌, ◌++◌, length, take, drop, leb, ltb}
-use Rattle.digits.specs.declared.Field.{Field}
-use Rattle.digits.specs.declared.Field.TheVariants.{Number, Nothing}
+use Rattle.std.specs.Prelude.{ℕ, zero, suc, ◌+◌, ◌-◌, ◌*◌, ◌/◌, ◌%◌, cond, Option, Some, None, option_and_then, List, [], ◌∷◌, ◌++◌, length, take, drop, leb, ltb}
 
 -- the digit of n: 0 to 9, then a to f
 unfoldable pub digit_of : ℕ → ℕ
@@ -12,18 +10,18 @@ unfoldable pub digits_of : ℕ → ℕ → List ℕ
 digits_of zero n = []
 digits_of (suc w) n = digits_of w (n / 16) ++ (digit_of (n % 16) ∷ [])
 
--- what a byte is worth as a digit; 16 where it is none
-unfoldable pub worth_of : ℕ → ℕ
-worth_of b = cond (ltb b 48) 16 (cond (ltb b 58) (b - 48) (cond (ltb b 97) 16 (cond (ltb b 103) (b - 87) 16)))
+-- what a byte is worth, if it is a digit
+unfoldable pub worth_of : ℕ → Option ℕ
+worth_of b = cond (ltb b 48) None (cond (ltb b 58) (Some (b - 48)) (cond (ltb b 97) None (cond (ltb b 103) (Some (b - 87)) None)))
 
--- the number that digits write after those of n; nothing where a byte is no digit
-unfoldable pub number_from : ℕ → List ℕ → Field
-number_from n [] = Number n
-number_from n (b ∷ s) = cond (ltb (worth_of b) 16) (number_from (n * 16 + worth_of b) s) Nothing
+-- the number that digits write after those of n, if each byte is a digit
+unfoldable pub number_from : ℕ → List ℕ → Option ℕ
+number_from n [] = Some n
+number_from n (b ∷ s) = option_and_then (λ v. number_from (n * 16 + v) s) (worth_of b)
 
 -- the field of exactly w digits, at most 16, from place i of a line on
-unfoldable pub field_of : List ℕ → ℕ → ℕ → Field
-field_of line i w = cond (leb w 16) (cond (leb (i + w) (length line)) (number_from 0 (take w (drop i line))) Nothing) Nothing
+unfoldable pub field_of : List ℕ → ℕ → ℕ → Option ℕ
+field_of line i w = cond (leb w 16) (cond (leb (i + w) (length line)) (number_from 0 (take w (drop i line))) None) None
 
 -- a field of w digits with the byte that ends it
 abbrev pub ended : ℕ → ℕ → ℕ → List ℕ

@@ -1,22 +1,26 @@
 // One digit, written and read.
-ghost use Rattle.std.specs.Prelude.{◌≡◌, ◌≤◌, ◌<◌};
+ghost use Rattle.std.specs.Prelude.{◌≡◌, ◌<◌};
 ghost use Rattle.digits.specs.Digits.{digit_of, worth_of};
 
+// `as` and no `try_from`, whose `Result` would be `Ok` in each arm.
+#[tactic(auto, unfolding(crate::specs::Digits::digit_of))]
 pub fn digit(n: u64) -> u8
     requires { n < 16 }
     ensures { result ≡ digit_of n }
 {
-    if n < 10 { 48 + n as u8 } else { 87 + n as u8 }
+    if n < 10 {
+        b'0' + n as u8
+    } else {
+        b'a' + (n - 10) as u8
+    }
 }
 
-// What a byte is worth if it is a digit: its low four bits, and nine more for a letter. 16 where the digit of that is another byte.
-pub fn worth(byte: u8) -> u64
-    ensures { (result ≡ worth_of byte) × (result ≤ 16) }
+// What a byte is worth if it is a digit: its low four bits, and nine more for a letter. None where the digit of that is another byte.
+#[tactic(auto, using(crate::proofs::Single::worth_tested))]
+pub fn worth(byte: u8) -> Option<u64>
+    ensures { result ≡ worth_of byte }
 {
-    let b = byte as u64;
+    let b = u64::from(byte);
     let v = b % 16 + 9 * (b / 64);
-    if 16 <= v {
-        return 16;
-    }
-    if digit(v) == byte { v } else { 16 }
+    (v < 16 && digit(v) == byte).then_some(v)
 }

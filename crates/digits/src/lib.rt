@@ -3,75 +3,55 @@
 
 mod digit;
 
-ghost use Rattle.std.specs.Prelude.{◌≡◌, ◌≤◌, ◌<◌, length};
-ghost use Rattle.digits.specs.Digits.{number_from, field_of, digits_of, ended, write_of};
+ghost use Rattle.std.specs.Prelude.{◌≡◌, ◌≤◌, length};
+ghost use Rattle.digits.specs.Digits.{number_from, field_of, digits_of, write_of};
 
 use digit::{digit, worth};
 
-// What a field holds.
-#[derive(Clone, Copy)]
-pub enum Field {
-    Number(u64),
-    Nothing,
-}
-
 // The number of the digits of a part.
-fn number(part: &[u8]) -> Field
+#[tactic(auto, using(crate::proofs::Reading::byte_read), unfolding(crate::specs::Digits::number_from))]
+fn number(part: &[u8]) -> Option<u64>
     requires { length part.now ≤ 16 }
     ensures { result ≡ number_from 0 part.now }
 {
-    let mut n: u64 = 0;
-    let mut i: usize = 0;
-    while i < part.len() {
-        let v = worth(part[i]);
-        if 16 <= v {
-            return Field::Nothing;
-        }
-        n = n * 16 + v;
-        i += 1;
+    let mut n = 0;
+    for b in part {
+        n = n * 16 + worth(*b)?;
     }
-    Field::Number(n)
+    Some(n)
 }
 
-// The field of width digits from a place of a line on.
-pub fn read(line: &[u8], at: usize, width: usize) -> Field
+// The number of the field of width digits from a place of a line on.
+#[tactic(auto, unfolding(crate::specs::Digits::field_of))]
+pub fn read(line: &[u8], at: usize, width: usize) -> Option<u64>
     ensures { result ≡ field_of line.now at width }
 {
     if 16 < width {
-        return Field::Nothing;
+        return None;
     }
-    if line.len() < at {
-        return Field::Nothing;
-    }
-    if line.len() - at < width {
-        return Field::Nothing;
-    }
-    number(&line[at..at + width])
+    let end = at.checked_add(width)?;
+    number(line.get(at..end)?)
 }
 
 // A part filled with the last digits of a number.
+#[tactic(auto, using(crate::proofs::Filling::fill_step), unfolding(crate::specs::Digits::digits_of))]
 fn fill(part: &mut [u8], number: u64)
     ensures { part.new ≡ digits_of (length part.old) number }
 {
-    let mut i = part.len();
     let mut left = number;
-    while 0 < i {
-        i -= 1;
+    for i in (0..part.len()).rev() {
         part[i] = digit(left % 16);
-        left = left / 16;
+        left /= 16;
     }
 }
 
 // A field of width digits and the byte that ends it, from a place of a line on, if the line has room.
+#[tactic(auto, using(crate::proofs::Placing::placed, crate::proofs::Placing::no_place))]
 pub fn write(line: &mut [u8], at: usize, width: usize, number: u64, end: u8)
     ensures { line.new ≡ write_of line.old at width number end }
 {
-    if line.len() <= at {
-        return;
+    if at < line.len() && width < line.len() - at {
+        fill(&mut line[at..at + width], number);
+        line[at + width] = end;
     }
-    if line.len() - at <= width {
-        return;
-    }
-    fill(&mut line[at..at + width], number);
-    line[at + width] = end;
 }

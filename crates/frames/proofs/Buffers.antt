@@ -20,10 +20,9 @@ record Done (i : ℕ) (done b s : List ℕ) : Type 0 where
 length_ended : (w n e : ℕ) → length (ended w n e) ≡ w + 1
 length_ended w n e = length-append (digits_of w n) (e ∷ []) ∙ (rw (length_digits w n))
 
-field_done : (i w n e : ℕ) (done b s t : List ℕ) → Done i done b s → i + (w + 1) ≤ length b → t ≡ write_of s i w n e →
-    Done (i + (w + 1)) (done ++ ended w n e) b t
+field_done : (i w n e : ℕ) (done b s : List ℕ) → Done i done b s → i + (w + 1) ≤ length b → Done (i + (w + 1)) (done ++ ended w n e) b (write_of s i w n e)
 unfolding write_of
-field_done i w n e done b s t d h g =
+field_done i w n e done b s d h =
     let c : length (ended w n e) ≡ w + 1 = length_ended w n e in
     let l : length s ≡ length b = ap length d.is ∙ length-append done (drop i b) ∙ (rw (d.count, length-drop i b) (omega arith)) in
     let front : take i s ≡ done = (rw d.is) ∙ take_at done (drop i b) i d.count in
@@ -32,18 +31,18 @@ field_done i w n e done b s t d h g =
     let room : i + (w + 1) ≤ length s = rw l h in
     record {
       count = length-append done (ended w n e) ∙ (rw (d.count, c));
-      is = g ∙ (rw (le-leb (i + (w + 1)) (length s) room, front, rest) (sym (append_assoc done (ended w n e) (drop (i + (w + 1)) b))));
+      is = rw (le-leb (i + (w + 1)) (length s) room, front, rest) (sym (append_assoc done (ended w n e) (drop (i + (w + 1)) b)));
     }
 
-pub six_fields : (x : Answer) (b s t u v w z : List ℕ) → 40 ≤ length b →
-    s ≡ write_of b 0 2 x.number 32 → t ≡ write_of s 3 4 x.slot 32 → u ≡ write_of t 8 16 x.entry 32 → v ≡ write_of u 25 4 x.probes 32 →
-    w ≡ write_of v 30 4 x.moved 32 → z ≡ write_of w 35 4 x.head.live 10 → z ≡ print_of x b
+-- the six fields of an answer, each written behind what is done
+pub six_fields : (x : Answer) (b : List ℕ) → 40 ≤ length b →
+    write_of (write_of (write_of (write_of (write_of (write_of b 0 2 x.number 32) 3 4 x.slot 32) 8 16 x.entry 32) 25 4 x.probes 32) 30 4 x.moved 32) 35 4 x.head.live 10 ≡ print_of x b
 unfolding print_of line_of
-six_fields x b s t u v w z h e f g i j k =
-    let a = field_done 0 2 x.number 32 [] b b s (record { count = refl; is = refl }) (omega arith) e in
-    let c = field_done 3 4 x.slot 32 _ b s t a (omega arith) f in
-    let d = field_done 8 16 x.entry 32 _ b t u c (omega arith) g in
-    let l = field_done 25 4 x.probes 32 _ b u v d (omega arith) i in
-    let m = field_done 30 4 x.moved 32 _ b v w l (omega arith) j in
-    let n = field_done 35 4 x.head.live 10 _ b w z m (omega arith) k in
-    n.is ∙ (rw (le-ltb (length b) 40 h) (simp append_assoc))
+six_fields x b h =
+    let a = field_done 0 2 x.number 32 [] b b (record { count = refl; is = refl }) (omega arith) in
+    let c = field_done 3 4 x.slot 32 _ b _ a (omega arith) in
+    let d = field_done 8 16 x.entry 32 _ b _ c (omega arith) in
+    let e = field_done 25 4 x.probes 32 _ b _ d (omega arith) in
+    let f = field_done 30 4 x.moved 32 _ b _ e (omega arith) in
+    let g = field_done 35 4 x.head.live 10 _ b _ f (omega arith) in
+    g.is ∙ (rw (le-ltb (length b) 40 h) (simp append_assoc))

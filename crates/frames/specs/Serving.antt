@@ -1,5 +1,5 @@
 -- One line served: document 01, "Frames". It cites the register's own definitions. Assumes nothing.
-use Rattle.std.specs.Prelude.{ℕ, ◌*◌, List, ◌++◌, take, drop}
+use Rattle.std.specs.Prelude.{ℕ, ◌*◌, Option, Some, None, List, ◌++◌, take, drop}
 use Rattle.register.specs.declared.head.Head.{Head}
 use Rattle.register.specs.Answers.{Out, out, refusal}
 use Rattle.register.specs.Clear.{clear_of}
@@ -10,8 +10,6 @@ use Rattle.register.specs.Change.{change_of}
 use Rattle.register.specs.Check.{check_of}
 use Rattle.frames.specs.declared.frame.Frame.{Frame}
 use Rattle.frames.specs.declared.frame.Frame.TheVariants.{Clear, Store, Find, Remove, Change, Check}
-use Rattle.frames.specs.declared.frame.Parsed.{Parsed}
-use Rattle.frames.specs.declared.frame.Parsed.TheVariants.{Good, Bad}
 use Rattle.frames.specs.Parsing.{parse_of}
 use Rattle.frames.specs.Printing.{print_of}
 
@@ -41,9 +39,9 @@ room_of h ws cs f =
     out o.answer (o.words ++ drop (2 * m) ws) (o.counts ++ drop m cs)
 
 -- a line that yields no frame gets answer 7
-abbrev pub answered_of : Head → List ℕ → List ℕ → Parsed → Out
-answered_of h ws cs (Good f) = room_of h ws cs f
-answered_of h ws cs Bad = out (refusal 7 h) ws cs
+abbrev pub answered_of : Head → List ℕ → List ℕ → Option Frame → Out
+answered_of h ws cs (Some f) = room_of h ws cs f
+answered_of h ws cs None = out (refusal 7 h) ws cs
 
 -- the head, both lists and the buffer after a line
 pub record Served : Type 0 where

@@ -1,5 +1,5 @@
 // A call, as a line asks for it.
-#[derive(Clone, Copy)]
+#[derive(Clone, Copy, Debug, PartialEq, Eq)]
 pub enum Frame {
     Clear { slots: usize, rule: u8, salt: u64 },
     Store { identifier: u64, entry: u64 },
@@ -7,11 +7,4 @@ pub enum Frame {
     Remove { identifier: u64 },
     Change { identifier: u64, entry: u64 },
     Check,
-}
-
-// What a line yields.
-#[derive(Clone, Copy)]
-pub enum Parsed {
-    Good(Frame),
-    Bad,
 }

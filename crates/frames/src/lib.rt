@@ -7,6 +7,6 @@ mod line;
 mod serving;
 
 pub use answer::print;
-pub use frame::{Frame, Parsed};
+pub use frame::Frame;
 pub use line::parse;
 pub use serving::serve;

@@ -1,50 +1,13 @@
 // One line served: the call that its frame asks for, on the register's parts of the room, and the answer's line.
-ghost use Rattle.std.specs.Prelude.{◌≡◌, ◌*◌, min};
+// The head, the words and the counts go side by side, as `register::store` and its like, which C calls too, take them: document 01, "The register".
+ghost use Rattle.std.specs.Prelude.{◌≡◌};
 ghost use Rattle.register.specs.Answers.{out};
-ghost use Rattle.frames.specs.Serving.{slots_of, call_of, room_of, served, serve_of};
+ghost use Rattle.frames.specs.Serving.{call_of, room_of, served, serve_of};
 
 use crate::answer::print;
-use crate::frame::{Frame, Parsed};
+use crate::frame::Frame;
 use crate::line::parse;
 use register::{Answer, Head};
-
-// How many slots the register of a frame's call has.
-fn slots_of(head: Head, frame: Frame) -> usize
-    ensures { result ≡ slots_of head frame }
-{
-    match frame {
-        Frame::Clear {
-            slots,
-            rule: _,
-            salt: _,
-        } => slots,
-        Frame::Store {
-            identifier: _,
-            entry: _,
-        } => head.slots,
-        Frame::Find { identifier: _ } => head.slots,
-        Frame::Remove { identifier: _ } => head.slots,
-        Frame::Change {
-            identifier: _,
-            entry: _,
-        } => head.slots,
-        Frame::Check => head.slots,
-    }
-}
-
-// The lesser of n and a length.
-fn least(n: usize, length: usize) -> usize
-    ensures { result ≡ min n length }
-{
-    if n < length { n } else { length }
-}
-
-// The lesser of 2n and a length.
-fn least_double(n: usize, length: usize) -> usize
-    ensures { result ≡ min (2 * n) length }
-{
-    if n <= length / 2 { 2 * n } else { length }
-}
 
 // A frame's call on the parts that are the register's own.
 fn call(head: Head, words: &mut [u64], counts: &mut [u16], frame: Frame) -> Answer
@@ -67,16 +30,21 @@ fn call(head: Head, words: &mut [u64], counts: &mut [u16], frame: Frame) -> Answ
 }
 
 // The same in a room that may be larger than the register, or too small for it.
+#[tactic(auto, unfolding(crate::specs::Serving::room_of), using(std::proofs::lemmas::List::take_min, std::proofs::lemmas::List::drop_min))]
 fn call_in_room(head: Head, words: &mut [u64], counts: &mut [u16], frame: Frame) -> Answer
     ensures { out result words.new counts.new ≡ room_of head words.old counts.old frame }
 {
-    let slots = slots_of(head, frame);
-    let w = least_double(slots, words.len());
-    let c = least(slots, counts.len());
+    let slots = match frame {
+        Frame::Clear { slots, .. } => slots,
+        _ => head.slots,
+    };
+    let w = slots.saturating_mul(2).min(words.len());
+    let c = slots.min(counts.len());
     call(head, &mut words[..w], &mut counts[..c], frame)
 }
 
 // The head afterwards; the buffer begins with the answer's line.
+#[tactic(auto, unfolding(crate::specs::Serving::serve_of))]
 pub fn serve(
     head: Head,
     words: &mut [u64],
@@ -86,7 +54,7 @@ pub fn serve(
 ) -> Head
     ensures { served result words.new counts.new buffer.new ≡ serve_of head words.old counts.old line.now buffer.old }
 {
-    let Parsed::Good(frame) = parse(line) else {
+    let Some(frame) = parse(line) else {
         print(Answer::refused(7, head), buffer);
         return head;
     };

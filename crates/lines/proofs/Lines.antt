@@ -9,6 +9,8 @@ use lib.ListN.{length, take, drop, length-append, length-take, length-drop}
 use lib.Seq.{length-take-le, take_at}
 use lib.Dec.{leb}
 use borrow.Author.Tests.{leb-true, le-leb, eq-eqb}
+use Rattle.std.specs.Prelude.{Option, Some, None}
+use Rattle.std.proofs.lemmas.Bool.{false≢true}
 use Rattle.register.specs.declared.head.Head.{Head}
 use Rattle.register.specs.Head.{good_head}
 use Rattle.register.specs.Answers.{Out, out, open_number, length_number}
@@ -19,8 +21,6 @@ use Rattle.history.specs.Live.{Live, none_live, after_live, valid_clear, head_fo
 use Rattle.history.proofs.History.{KeptAt, kept_after, kept, afresh}
 use Rattle.frames.specs.declared.frame.Frame.{Frame}
 use Rattle.frames.specs.declared.frame.Frame.TheVariants.{Clear, Store, Find, Remove, Change, Check}
-use Rattle.frames.specs.declared.frame.Parsed.{Parsed}
-use Rattle.frames.specs.declared.frame.Parsed.TheVariants.{Good, Bad}
 use Rattle.frames.specs.Parsing.{parse_of}
 use Rattle.frames.specs.Serving.{call_of, room_of, answered_of}
 use Rattle.frames.proofs.Room.{clear_refused}
@@ -69,14 +69,11 @@ call_held {w} {c} {r} {l} H o k e =
     (put_back r.words r.counts m o (after_live (2 * m) m k l) (rw H.words H.enough_words) (rw H.counts H.enough_counts)
     (subst (λ (s : State). KeptAt (2 * m) m s (after_live (2 * m) m k l)) (sym e) (kept_after H.kept k)))
 
-false_is_not_true : ◌≡◌ {A = Bool} false true → ⊥
-false_is_not_true p = let z : ◌≡◌ {A = ℕ} 0 1 = cc in omega arith
-
 three_tests : (a b c : Bool) → cond a (cond b c false) false ≡ true → (a ≡ true) × (b ≡ true) × (c ≡ true)
 three_tests true true true e = (refl, refl, refl)
-three_tests true true false e = absurd (false_is_not_true e)
-three_tests true false c e = absurd (false_is_not_true e)
-three_tests false b c e = absurd (false_is_not_true e)
+three_tests true true false e = absurd (false≢true e)
+three_tests true false c e = absurd (false≢true e)
+three_tests false b c e = absurd (false≢true e)
 
 module _ (h : Head) (ws cs : List ℕ) (m rule salt : ℕ) where
   -- an accepted clear: the room's register is cleared
@@ -115,7 +112,7 @@ module _ (h : Head) (ws cs : List ℕ) (m rule salt : ℕ) where
   -- a refused clear leaves the room as it was
   clear_kept_out : room_clear m rule salt (length ws) (length cs) ≡ false → leaves (room_of h ws cs (Clear m rule salt)) ≡ record { head = h; words = ws; counts = cs }
   clear_kept_out e =
-      ap leaves (clear_refused h ws cs m rule salt _ (λ n. false_is_not_true (sym e ∙ opens_in_room n)) refl)
+      ap leaves (clear_refused h ws cs m rule salt _ (λ n. false≢true (sym e ∙ opens_in_room n)) refl)
 
 -- a frame's call on the register in the room
 abbrev asked : Room → Frame → Out
@@ -138,21 +135,21 @@ frame_held {r = r} H (Remove x) = call_held H (asked r (Remove x)) (remove x) re
 frame_held {r = r} H (Change x v) = call_held H (asked r (Change x v)) (change x v) refl
 frame_held {r = r} H Check = call_held H (asked r Check) check refl
 
-line_held : {w c : ℕ} {r : Room} {l : Live} → Held w c r l → (p : Parsed) → Held w c (leaves (answered_of r.head r.words r.counts p)) (line_live w c p l)
-line_held H (Good f) = frame_held H f
-line_held H Bad = H
+line_held : {w c : ℕ} {r : Room} {l : Live} → Held w c r l → (p : Option Frame) → Held w c (leaves (answered_of r.head r.words r.counts p)) (line_live w c p l)
+line_held H (Some f) = frame_held H f
+line_held H None = H
 
 lines_held : {w c : ℕ} {r : Room} {l : Live} → Held w c r l → (lines : List (List ℕ)) → Held w c (after_lines lines r) (lines_live w c lines l)
 unfolding after_lines lines_live
 lines_held H [] = H
 lines_held {r = r} H (line ∷ lines) = lines_held {r = leaves (answered_of r.head r.words r.counts (parse_of line))} (line_held H (parse_of line)) lines
 
-pub lines_afresh : (r : Room) (line : List ℕ) (m rule salt : ℕ) (lines : List (List ℕ)) → parse_of line ≡ Good (Clear m rule salt) →
+pub lines_afresh : (r : Room) (line : List ℕ) (m rule salt : ℕ) (lines : List (List ℕ)) → parse_of line ≡ Some (Clear m rule salt) →
     room_clear m rule salt (length r.words) (length r.counts) ≡ true →
     Afresh (register_in (after_lines (line ∷ lines) r)) (lines_live (length r.words) (length r.counts) lines (none_live m rule salt))
 unfolding after_lines
 lines_afresh r line m rule salt lines p e =
     subst
-    (λ (q : Parsed). Afresh (register_in (after_lines lines (leaves (answered_of r.head r.words r.counts q)))) (lines_live (length r.words) (length r.counts) lines (none_live m rule salt)))
+    (λ (q : Option Frame). Afresh (register_in (after_lines lines (leaves (answered_of r.head r.words r.counts q)))) (lines_live (length r.words) (length r.counts) lines (none_live m rule salt)))
     (sym p)
     (afresh (lines_held (clear_held r.head r.words r.counts m rule salt e) lines).kept)

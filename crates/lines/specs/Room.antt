@@ -1,6 +1,6 @@
 -- The program's room, a list of lines served in it, and the records that the lines leave live, counted from the lines by the map's rule
 -- and never from the answers: document 01, "Frames" and "How tight each call's statement is". Assumes nothing.
-use Rattle.std.specs.Prelude.{ℕ, ◌*◌, Bool, false, cond, List, [], ◌∷◌, take, leb}
+use Rattle.std.specs.Prelude.{ℕ, ◌*◌, Bool, false, cond, Option, Some, None, List, [], ◌∷◌, take, leb}
 use Rattle.register.specs.declared.head.Head.{Head}
 use Rattle.register.specs.Head.{good_head}
 use Rattle.register.specs.Answers.{Out}
@@ -9,8 +9,6 @@ use Rattle.history.specs.Calls.{State, store, remove, change}
 use Rattle.history.specs.Live.{Live, none_live, after_live}
 use Rattle.frames.specs.declared.frame.Frame.{Frame}
 use Rattle.frames.specs.declared.frame.Frame.TheVariants.{Clear, Store, Find, Remove, Change, Check}
-use Rattle.frames.specs.declared.frame.Parsed.{Parsed}
-use Rattle.frames.specs.declared.frame.Parsed.TheVariants.{Good, Bad}
 use Rattle.frames.specs.Parsing.{parse_of}
 use Rattle.frames.specs.Serving.{answered_of}
 
@@ -51,9 +49,9 @@ frame_live words counts (Change x v) l = after_live words counts (change x v) l
 frame_live words counts Check l = l
 
 -- a bad line leaves all as it is
-abbrev pub line_live : ℕ → ℕ → Parsed → Live → Live
-line_live words counts (Good f) l = frame_live words counts f l
-line_live words counts Bad l = l
+abbrev pub line_live : ℕ → ℕ → Option Frame → Live → Live
+line_live words counts (Some f) l = frame_live words counts f l
+line_live words counts None l = l
 
 -- what is live after a list of lines
 unfoldable pub lines_live : ℕ → ℕ → List (List ℕ) → Live → Live
