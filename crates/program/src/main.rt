@@ -2,30 +2,20 @@
 #![tactic(auto)]
 
 mod input;
+mod output;
 
-use input::{Session, turn};
-use register::Head;
+use input::Session;
+use output::Output;
+use std::ops::ControlFlow;
 
 // A proved loop has to end, and nothing says that an input does: no run uses up so many turns.
 fn main(rt: HostRuntime) {
     let mut reader = rt.stdin();
-    let mut writer = rt.stdout();
-    let mut words = [0u64; 4096];
-    let mut counts = [0u16; 2048];
-    let mut line = [0u8; 37];
-    // Before the first accepted clear the head is all zeros.
-    let mut session = Session::of(Head::cleared(0, 0, 0), 0, false);
+    let mut output = Output::over(rt.stdout());
+    let mut session = Session::new();
     for _ in 0..u64::MAX {
-        session = turn(
-            &mut reader,
-            &mut writer,
-            session,
-            &mut words,
-            &mut counts,
-            &mut line,
-        );
-        if session.ended {
+        let Ok(ControlFlow::Continue(())) = session.turn(&mut reader, &mut output) else {
             return;
-        }
+        };
     }
 }
