@@ -7,7 +7,7 @@ ghost use Rattle.frames.specs.Serving.{call_of, room_of, served, serve_of};
 use crate::answer::print;
 use crate::frame::Frame;
 use crate::line::parse;
-use register::{Answer, Head};
+use register::{Answer, Head, Refusal};
 
 // A frame's call on the parts that are the register's own.
 fn call(head: Head, words: &mut [u64], counts: &mut [u16], frame: Frame) -> Answer
@@ -55,7 +55,7 @@ pub fn serve(
     ensures { served result words.new counts.new buffer.new ≡ serve_of head words.old counts.old line.now buffer.old }
 {
     let Some(frame) = parse(line) else {
-        print(Answer::refused(7, head), buffer);
+        print(Refusal::BadFrame.answer(head), buffer);
         return head;
     };
     let answer = call_in_room(head, words, counts, frame);

@@ -31,4 +31,7 @@ tight =
       answer_refused = λ number h. one _;
       answer_done = λ h. one _;
       answer_absent = λ h slot p. one _;
+      refusal_number = λ r. one _;
+      refusal_answer = λ r h. one _;
+      refusal_census = λ r h. one _;
     }

@@ -3,15 +3,16 @@ use Rattle.std.specs.Prelude.{ℕ, ◌≡◌, List}
 use Rattle.hash.specs.Fnv.{fnv, key_hash}
 use Rattle.register.specs.declared.head.Head.{Head}
 use Rattle.register.specs.declared.answer.Answer.{Answer}
+use Rattle.register.specs.declared.refusal.Refusal.{Refusal}
 use Rattle.register.specs.Head.{head_of, most_live_of, good_head}
-use Rattle.register.specs.Answers.{Out, out, refusal, done_answer, absent_answer}
+use Rattle.register.specs.Answers.{Out, out, number_of, refusal, done_answer, absent_answer}
 use Rattle.register.specs.Clear.{clear_of}
 use Rattle.register.specs.Find.{find_of}
 use Rattle.register.specs.Store.{store_of}
 use Rattle.register.specs.Remove.{remove_of}
 use Rattle.register.specs.Change.{change_of}
 use Rattle.register.specs.Check.{check_of}
-use Rattle.register.specs.Census.{census_of}
+use Rattle.register.specs.Census.{census_answer, census_of}
 
 -- any two answers that meet the statement "the answer is c" are equal
 abbrev pub One : {A : Type 0} → A → Type 0
@@ -39,3 +40,6 @@ pub record Tight : Type 0 where
   pub answer_refused : (number : ℕ) (h : Head) → One (refusal number h)
   pub answer_done : (h : Head) → One (done_answer h)
   pub answer_absent : (h : Head) (slot p : ℕ) → One (absent_answer h slot p)
+  pub refusal_number : (r : Refusal) → One (number_of r)
+  pub refusal_answer : (r : Refusal) (h : Head) → One (refusal (number_of r) h)
+  pub refusal_census : (r : Refusal) (h : Head) → One (census_answer (number_of r) 0 0 0 h)

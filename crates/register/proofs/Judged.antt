@@ -1,23 +1,24 @@
--- check's judgement and count, slot by slot: what one slot adds, and nothing past the end. Assumes nothing.
-use Prim.Native.Nat.{ℕ, suc, ◌+◌, ◌-◌, ◌≤◌, ◌<◌}
-use mathlib.Core.Path.{◌≡◌}
-use mathlib.Core.Bool.{true, false}
-use native.Mathlib.Numerals.{add-one}
+-- check's judgement of a slot, by its tests, and its count of the occupied slots. Assumes nothing.
+use Prim.Native.Nat.{ℕ, suc, ◌+◌, ◌-◌, ◌%◌, ◌≤◌, ◌<◌}
+use mathlib.Core.Path.{◌≡◌, refl, ap, ◌∙◌}
+use mathlib.Core.Bool.{Bool, true, false, cond, not}
+use mathlib.Core.List.{List, [], ◌∷◌}
 use native.Mathlib.Omega.{arith}
+use lib.Dec.{eqb}
+use lib.ListN.{length, get_or}
+use Rattle.std.specs.Prelude.{count_by}
+use Rattle.std.proofs.lemmas.List.Sums.{sum_by-cons}
 use borrow.Author.Tests.{eq-eqb, ne_eqb, le-leb, lt-leb}
-use Rattle.arrangement.specs.Table.{Table, occupied_from}
+use Rattle.arrangement.specs.Table.{Table, onward, occupied_from}
 use Rattle.arrangement.specs.Proper.{slot_at}
 use Rattle.arrangement.specs.Changes.{prior}
 use Rattle.register.specs.declared.head.Head.{Head}
 use Rattle.register.specs.Homes.{home_of}
-use Rattle.register.specs.Check.{is_empty_good, behind_good, is_slot_good, are_slots_good}
+use Rattle.register.specs.Check.{is_empty_good, behind_good, is_slot_good}
 
--- m slots less i are one more than m less i + 1, and none from m on
-one_fewer_lem : (m i : ℕ) → i < m → m - i ≡ suc (m - (i + 1))
-one_fewer_lem m i h = omega arith
-
-none_left : (m i : ℕ) → m ≤ i → m - i ≡ 0
-none_left m i h = omega arith
+-- a record's place, as the code finds it
+pub place_on : (m home c : ℕ) → 0 < c → onward m home (c - 1) ≡ slot_at m home c
+place_on m home c some = ap (λ (k : ℕ). k % m) (omega arith)
 
 -- one slot, by its tests
 module _ (h : Head) (t : Table) (i : ℕ) where
@@ -37,29 +38,15 @@ module _ (h : Head) (t : Table) (i : ℕ) where
   unfolding is_slot_good
   slot_behind n l e = rw (ne_eqb _ _ n, le-leb _ _ l, eq-eqb _ _ e)
 
--- the slots from i on
-module _ (h : Head) (t : Table) (m i : ℕ) where
-  pub good_on : i < m → is_slot_good h t i ≡ true → are_slots_good h t i (m - i) ≡ are_slots_good h t (i + 1) (m - (i + 1))
-  unfolding are_slots_good
-  good_on l e = rw (one_fewer_lem m i l, e, add-one i)
+-- the counts that are not 0 are as many as the occupied slots, where they are those slots' counts
+pub occupied_counts : (t : Table) (cs : List ℕ) (i : ℕ) → ((k : ℕ) → (t (i + k)).count ≡ get_or cs k 0) → count_by (λ c. not (eqb c 0)) cs ≡ occupied_from t i (length cs)
+unfolding occupied_from
+occupied_counts t [] i h = refl
+occupied_counts t (c ∷ cs) i h = sum_by-cons (λ c. cond (not (eqb c 0)) 1 0) c cs ∙ rw first (go (eqb c 0) (occupied_counts t cs (suc i) (λ k. ap (λ (n : ℕ). (t n).count) (omega arith) ∙ h (suc k))))
+  where
+    first : (t i).count ≡ c
+    first = ap (λ (n : ℕ). (t n).count) (omega arith) ∙ h 0
 
-  pub good_off : i < m → is_slot_good h t i ≡ false → are_slots_good h t i (m - i) ≡ false
-  unfolding are_slots_good
-  good_off l e = rw (one_fewer_lem m i l, e)
-
-  pub good_end : m ≤ i → are_slots_good h t i (m - i) ≡ true
-  unfolding are_slots_good
-  good_end l = rw (none_left m i l)
-
-module _ (t : Table) (m i : ℕ) where
-  pub occupied_on : i < m → ((t i).count ≡ 0 → ⊥) → occupied_from t i (m - i) ≡ suc (occupied_from t (i + 1) (m - (i + 1)))
-  unfolding occupied_from
-  occupied_on l n = rw (one_fewer_lem m i l, ne_eqb _ _ n, add-one i)
-
-  pub occupied_off : i < m → (t i).count ≡ 0 → occupied_from t i (m - i) ≡ occupied_from t (i + 1) (m - (i + 1))
-  unfolding occupied_from
-  occupied_off l e = rw (one_fewer_lem m i l, eq-eqb _ _ e, add-one i)
-
-  pub occupied_end : m ≤ i → occupied_from t i (m - i) ≡ 0
-  unfolding occupied_from
-  occupied_end l = rw (none_left m i l)
+    go : (b : Bool) {n m : ℕ} → n ≡ m → cond (not b) 1 0 + n ≡ cond b m (suc m)
+    go true e = omega arith
+    go false e = omega arith

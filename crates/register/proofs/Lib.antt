@@ -9,6 +9,5 @@ pub mod Shifting
 pub mod Endings
 pub mod Walked
 pub mod Totals
-pub mod Zeroed
 pub mod Judged
 pub mod Accepts

@@ -1,16 +1,18 @@
 -- What a call knows once its opening has not refused. Assumes nothing.
-use Prim.Native.Nat.{ℕ, ◌*◌, ◌≤◌}
-use mathlib.Core.Path.{◌≡◌}
-use mathlib.Core.Bool.{true, false≢true}
+use Prim.Native.Nat.{ℕ, ◌*◌, ◌≤◌, ◌<◌}
+use mathlib.Core.Path.{◌≡◌, refl, sym}
+use mathlib.Core.Bool.{true, false, false≢true}
 use mathlib.Core.List.{List}
 use native.Mathlib.Omega.{arith}
 use lib.Dec.{eqb}
 use lib.ListN.{length}
 use borrow.Author.Tests.{ltb-false, eqb-true}
 use Rattle.register.specs.declared.head.Head.{Head}
+use Rattle.register.specs.declared.refusal.Refusal.{Refusal}
+use Rattle.register.specs.declared.refusal.Refusal.TheVariants.{BadHead, BadLength, AlreadyNamed, Full, Absent, Damaged, BadFrame}
 use Rattle.register.specs.Head.{good_head, most_live_of}
-use Rattle.register.specs.Private.{Lent}
-use Rattle.register.specs.Answers.{length_number, open_number}
+use Rattle.register.specs.Lent.{Lent}
+use Rattle.register.specs.Answers.{number_of, length_number, open_number}
 use Rattle.register.proofs.Picks.{picked_first, picked_second}
 
 -- a good head, as numbers
@@ -55,3 +57,19 @@ opened_lent h ws cs e =
     let g : Good h = opened_good h (length ws) (length cs) e in
     let l : _ = good_lengths _ _ _ (picked_first (good_head h) {y = 1} {z = 0} e (λ q. omega arith)).1 in
     record { least = g.least; most = g.most; words = l.0; counts = l.1 }
+
+-- what the opened register's invariant asks
+pub opened : (h : Head) (ws cs : List ℕ) → 0 ≡ open_number h (length ws) (length cs) → record { lent : Lent h.slots ws cs; room : h.live < h.slots }
+opened h ws cs e =
+    let g = opened_good h (length ws) (length cs) (sym e) in
+    record { lent = opened_lent h ws cs (sym e); room = omega (arith, g.least, g.live) }
+
+-- no refusal's number is 0
+pub refused : (r : Refusal) → eqb (number_of r) 0 ≡ false
+refused BadHead = refl
+refused BadLength = refl
+refused AlreadyNamed = refl
+refused Full = refl
+refused Absent = refl
+refused Damaged = refl
+refused BadFrame = refl

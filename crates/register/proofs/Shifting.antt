@@ -13,10 +13,26 @@ use Rattle.arrangement.specs.Table.{Cell, Table, empty, onward, rank}
 use Rattle.arrangement.specs.Changes.{raised, lowered, prior, next, stored, removed, any_far}
 use Rattle.arrangement.proofs.Cycle.{next_in, next_inner, next_last, onward_in, onward_rank, prior_first, prior_inner, rank_onward, rank_zero, rank_same, rank_self, rank_ahead, rank_behind}
 use Rattle.arrangement.proofs.Outside.{stored_new, stored_moved, stored_same, removed_moved, removed_last, removed_same}
-use Rattle.register.specs.Private.{Lent, Holds}
+use Rattle.register.specs.Private.{Holds, Kept, Leaves}
+use Rattle.register.specs.declared.table.OpenedMut.{OpenedMut}
 use Rattle.register.specs.Shifts.{lifted, shifted_on, shifted_back, Liftable}
 use Rattle.register.specs.Slices.{table_of}
+use Rattle.register.specs.Store.{cell_of}
 use Rattle.register.proofs.Slices.{holds_as, put_at, put_here, put_other, put_holds}
+
+-- two changes, one after the other
+
+-- what each keeps, both keep
+pub kept_trans : {r q p : OpenedMut} → Kept r q → Kept q p → Kept r p
+kept_trans k l = record { head = l.head ∙ k.head; words = l.words ∙ k.words; counts = l.counts ∙ k.counts }
+
+-- the table that the second leaves, both leave, where the first keeps the head and slices; the slot count may stand in the table
+pub leaves_next : {r q p : OpenedMut} (t : ℕ → Table) → Kept r q → Leaves q p (t q.head.slots) → Leaves r p (t r.head.slots)
+leaves_next t k l = record { kept = kept_trans k l.kept; holds = rw k.head at l.holds }
+
+-- a table equal to it slot by slot is left too
+pub leaves_as : {r q : OpenedMut} {t u : Table} → Leaves r q t → ((i : ℕ) → i < r.head.slots → t i ≡ u i) → Leaves r q u
+leaves_as l e = record { kept = l.kept; holds = holds_as l.holds e }
 
 -- what each slot holds
 
@@ -72,16 +88,13 @@ near_at m s t (suc k) e l h = go (any_far m s t k) refl (ℕ_discrete l k) e (ne
 
 -- one move
 
--- the record of slot i put into slot j, raised or lowered
-pub move_on_holds : {m : ℕ} {u : Table} {ws cs : List ℕ} (i j : ℕ) → i < m → j < m → Holds m u ws cs
-    → Holds m (put_at j (raised (u i)) u) (set (set ws (2 * j) (get_or ws (2 * i) 0)) (2 * j + 1) (get_or ws (2 * i + 1) 0)) (set cs j (get_or cs i 0 + 1))
-move_on_holds {m} {u} {ws} {cs} i j k l h =
-    holds_as (put_holds j (raised (table_of ws cs i)) l h) (λ q o. ap (λ (c : Cell). put_at j (raised c) u q) (h.slots i k))
-
-pub move_back_holds : {m : ℕ} {u : Table} {ws cs : List ℕ} (i j : ℕ) → i < m → j < m → Holds m u ws cs
-    → Holds m (put_at j (lowered (u i)) u) (set (set ws (2 * j) (get_or ws (2 * i) 0)) (2 * j + 1) (get_or ws (2 * i + 1) 0)) (set cs j (get_or cs i 0 - 1))
-move_back_holds {m} {u} {ws} {cs} i j k l h =
-    holds_as (put_holds j (lowered (table_of ws cs i)) l h) (λ q o. ap (λ (c : Cell). put_at j (lowered c) u q) (h.slots i k))
+-- the record of slot i put into slot j, its count changed
+move_holds : {m : ℕ} {u : Table} {ws cs : List ℕ} (f : ℕ → ℕ) (i j : ℕ) → i < m → j < m → Holds m u ws cs
+    → Holds m (put_at j (record { count = f (u i).count; identifier = (u i).identifier; entry = (u i).entry }) u)
+    (set (set ws (2 * j) (get_or ws (2 * i) 0)) (2 * j + 1) (get_or ws (2 * i + 1) 0)) (set cs j (f (get_or cs i 0)))
+move_holds {m} {u} {ws} {cs} f i j k l h =
+    let new : Cell → Cell = λ c. record { count = f c.count; identifier = c.identifier; entry = c.entry } in
+    holds_as (put_holds j (new (table_of ws cs i)) l h) (λ q o. ap (λ (c : Cell). put_at j (new c) u q) (h.slots i k))
 
 -- the lift, from the far end
 
@@ -140,31 +153,30 @@ module _ (m s k : ℕ) (t : Table) (h : s < m) (o : k < m) (w : m ≤ s + k) whe
       let e = s + k - m in
       put_other 0 (raised (lifted 0 e t (m - 1))) (lifted 0 e t) (omega arith) ∙ lift_beyond 0 e t i (omega arith)
 
-  pub run_around : (i : ℕ) → i < m → lifted s (m - 1) (turned_once m (s + k - m) t) i ≡ shifted_on m s k t i
+  pub run_around : (v : Table) → ((i : ℕ) → i < m → v i ≡ turned_once m (s + k - m) t i) → (i : ℕ) → i < m → lifted s (m - 1) v i ≡ shifted_on m s k t i
   unfolding turned_once
-  run_around i l = go (dec_lt i s)
+  run_around v same i l = go (dec_lt i s)
     where
-      u : Table
-      u = turned_once m (s + k - m) t
-
-      go : Dec (i < s) → lifted s (m - 1) u i ≡ shifted_on m s k t i
+      go : Dec (i < s) → lifted s (m - 1) v i ≡ shifted_on m s k t i
       go (no b) = side (ℕ_discrete i s)
         where
           r : rank m s i ≡ i - s
           r = rank_ahead (omega arith) l
 
-          side : Dec (i ≡ s) → lifted s (m - 1) u i ≡ shifted_on m s k t i
-          side (yes e) = lift_before s (m - 1) u i (omega arith) ∙ turned_still i (omega arith) ∙ sym (on_start m s k t i (omega (arith, r)))
+          side : Dec (i ≡ s) → lifted s (m - 1) v i ≡ shifted_on m s k t i
+          side (yes e) =
+              lift_before s (m - 1) v i (omega arith) ∙ same i l ∙ turned_still i (omega arith) ∙ sym (on_start m s k t i (omega (arith, r)))
           side (no n) =
-              lift_moved s (m - 1) u i (omega arith) (omega arith) ∙ ap raised (turned_still (i - 1) (omega arith))
+              lift_moved s (m - 1) v i (omega arith) (omega arith)
+              ∙ ap raised (same (i - 1) (omega arith) ∙ turned_still (i - 1) (omega arith))
               ∙ ap (λ (q : ℕ). raised (t q)) (sym (prior_inner (omega arith) l))
               ∙ sym (on_moved m s k t i (omega (arith, r)) (omega (arith, r)))
-      go (yes b) = lift_before s (m - 1) u i (omega arith) ∙ side (ℕ_discrete i 0) (dec_le i (s + k - m))
+      go (yes b) = lift_before s (m - 1) v i (omega arith) ∙ same i l ∙ side (ℕ_discrete i 0) (dec_le i (s + k - m))
         where
           r : rank m s i ≡ i + m - s
           r = rank_behind b h
 
-          side : Dec (i ≡ 0) → Dec (i ≤ s + k - m) → u i ≡ shifted_on m s k t i
+          side : Dec (i ≡ 0) → Dec (i ≤ s + k - m) → turned_once m (s + k - m) t i ≡ shifted_on m s k t i
           side (yes e) d =
               put_here 0 (raised (lifted 0 (s + k - m) t (m - 1))) (lifted 0 (s + k - m) t) e
               ∙ ap raised (lift_beyond 0 (s + k - m) t (m - 1) (omega arith))
@@ -310,17 +322,14 @@ module _ {m a b : ℕ} {t : Table} where
         to = omega (arith, g.to);
         top = g.top;
         holds =
-            holds_as (move_on_holds (j - 1) j (omega (arith, g.to, g.top)) (omega (arith, g.to, g.top)) g.holds)
+            holds_as (move_holds (λ c. c + 1) (j - 1) j (omega (arith, g.to, g.top)) (omega (arith, g.to, g.top)) g.holds)
             (λ i k. lift_step b t j (omega arith) g.to i);
       }
 
   pub lifting_next : {ws cs us ds : List ℕ} {j : ℕ} → Lifting m a b t ws cs j → a < j
-      → (us ≡ set (set ws (2 * j) (get_or ws (2 * (j - 1)) 0)) (2 * j + 1) (get_or ws (2 * (j - 1) + 1) 0)) × (ds ≡ set cs j (get_or cs (j - 1) 0 + 1))
-      → Lifting m a b t us ds (j - 1)
-  lifting_next {ws} {cs} {us} {ds} {j} g l e = rw (e.0, e.1) (lifting_step g l)
-
-  pub lifting_end : {ws cs : List ℕ} {j : ℕ} → Lifting m a b t ws cs j → j ≤ a → Holds m (lifted a b t) ws cs
-  lifting_end {ws} {cs} {j} g l = let e : j ≡ a = omega (arith, g.from) in holds_as g.holds (λ i k. ap (λ (q : ℕ). lifted q b t i) e)
+      → us ≡ set (set ws (2 * (j - 1 + 1)) (get_or ws (2 * (j - 1)) 0)) (2 * (j - 1 + 1) + 1) (get_or ws (2 * (j - 1) + 1) 0)
+      → ds ≡ set cs (j - 1 + 1) (get_or cs (j - 1) 0 + 1) → Lifting m a b t us ds (j - 1)
+  lifting_next {ws} {cs} {us} {ds} {j} g l e f = let to : j - 1 + 1 ≡ j = omega arith in rw (e, f, to) (lifting_step g l)
 
 -- the shift back's loop stands at slot j: the slots from s up to before it have been written
 pub record Lowering (m s k : ℕ) (t : Table) (ws cs : List ℕ) (j : ℕ) : Type 0 where
@@ -357,66 +366,55 @@ module _ {m s k : ℕ} {t : Table} where
         to = omega arith;
         top = g.top;
         holds =
-            holds_as (move_back_holds (j + 1) j (omega (arith, g.top)) (omega (arith, g.top)) g.holds)
+            holds_as (move_holds (λ c. c - 1) (j + 1) j (omega (arith, g.top)) (omega (arith, g.top)) g.holds)
             (back_step m s t j g.from (omega (arith, g.top)));
       }
 
   pub lowering_next : {ws cs us ds : List ℕ} {j : ℕ} → Lowering m s k t ws cs j → j < s + k
-      → (us ≡ set (set ws (2 * j) (get_or ws (2 * (j + 1)) 0)) (2 * j + 1) (get_or ws (2 * (j + 1) + 1) 0)) × (ds ≡ set cs j (get_or cs (j + 1) 0 - 1))
-      → Lowering m s k t us ds (j + 1)
-  lowering_next {ws} {cs} {us} {ds} {j} g l e = rw (e.0, e.1) (lowering_step g l)
-
-  pub lowering_end : {ws cs : List ℕ} {j : ℕ} → Lowering m s k t ws cs j → s + k ≤ j → Holds m (shifted_back m s k t) ws cs
-  lowering_end {ws} {cs} {j} g l =
-      let e : j - s ≡ k = omega (arith, g.to) in holds_as g.holds (λ i o. ap (λ (n : ℕ). shifted_back m s n t i) e)
-
--- lists that hold a table of m slots are lent lists
-pub lent_of : {m : ℕ} {u : Table} {ws cs : List ℕ} → 2 ≤ m → m ≤ 32768 → Holds m u ws cs → Lent m ws cs
-lent_of a b h = record { least = a; most = b; words = h.words; counts = h.counts }
+      → us ≡ set (set ws (2 * j) (get_or ws (2 * (j + 1)) 0)) (2 * j + 1) (get_or ws (2 * (j + 1) + 1) 0)
+      → ds ≡ set cs j (get_or cs (j + 1) 0 - 1) → Lowering m s k t us ds (j + 1)
+  lowering_next g l e f = rw (e, f) (lowering_step g l)
 
 -- a slot is as far onward as its rank says
 pub onward_of : {m s k i : ℕ} → s < m → i < m → rank m s i ≡ k → i ≡ onward m s k
 onward_of {m} {s} h l e = sym (onward_rank h l) ∙ ap (onward m s) e
 
 -- the parts of a shift back around the end, with the lists in between
-module _ (m s k : ℕ) (t : Table) (h : s < m) (o : k < m) (up : Liftable m s k t) (w : m ≤ s + k) where
-  pub liftable_first : Liftable m s (m - 1 - s) t
-  liftable_first i a b = up i a (omega arith)
+pub back_turn_holds : {m : ℕ} (s : ℕ) (t : Table) {ws cs us ds : List ℕ} → 0 < m → Holds m (shifted_back m s (m - 1 - s) t) ws cs
+    → us ≡ set (set ws (2 * (m - 1)) (get_or ws (2 * 0) 0)) (2 * (m - 1) + 1) (get_or ws (2 * 0 + 1) 0) → ds ≡ set cs (m - 1) (get_or cs 0 0 - 1)
+    → Holds m (turned_back m s t) us ds
+unfolding turned_back
+back_turn_holds {m} s t z h p q = rw (p, q) (move_holds (λ c. c - 1) 0 (m - 1) z (omega arith) h)
 
+module _ (m s k : ℕ) (t : Table) (q : (s < m) × (k < m) × Liftable m s k t) (w : m ≤ s + k) where
   pub back_turn_count : {ws cs : List ℕ} → Holds m (shifted_back m s (m - 1 - s) t) ws cs → 0 < get_or cs 0 0
   back_turn_count {ws} {cs} held =
-      let r : rank m s 0 ≡ 0 + m - s = rank_behind (omega arith) h in
+      let r : rank m s 0 ≡ 0 + m - s = rank_behind (omega arith) q.0 in
       let e : (table_of ws cs 0).count ≡ (t 0).count
       = ap (λ (c : Cell). c.count) (held.slots 0 (omega arith) ∙ back_still m s (m - 1 - s) t 0 (omega (arith, r))) in
-      omega (arith, e, liftable_at t up h 0 (omega arith) (omega (arith, r)) (omega (arith, r)))
-
-  pub back_turn_holds : {ws cs us ds : List ℕ} → Holds m (shifted_back m s (m - 1 - s) t) ws cs
-      → (us ≡ set (set ws (2 * (m - 1)) (get_or ws (2 * 0) 0)) (2 * (m - 1) + 1) (get_or ws (2 * 0 + 1) 0)) × (ds ≡ set cs (m - 1) (get_or cs 0 0 - 1))
-      → Holds m (turned_back m s t) us ds
-  unfolding turned_back
-  back_turn_holds held q = rw (q.0, q.1) (move_back_holds 0 (m - 1) (omega arith) (omega arith) held)
+      omega (arith, e, liftable_at t q.2 q.0 0 (omega arith) (omega (arith, r)) (omega (arith, r)))
 
   pub liftable_rest : {ws cs : List ℕ} → Holds m (turned_back m s t) ws cs → Liftable m 0 (s + k - m) (table_of ws cs)
   liftable_rest {ws} {cs} held i a b =
-      let r : rank m s i ≡ i + m - s = rank_behind (omega arith) h in
+      let r : rank m s i ≡ i + m - s = rank_behind (omega arith) q.0 in
       let z : i ≡ onward m 0 i = onward_of (omega arith) (omega arith) (rank_ahead (omega arith) (omega arith) ∙ omega arith) in
-      let q : (table_of ws cs i).count ≡ (table_of ws cs (onward m 0 i)).count = ap (λ (n : ℕ). (table_of ws cs n).count) z in
+      let y : (table_of ws cs i).count ≡ (table_of ws cs (onward m 0 i)).count = ap (λ (n : ℕ). (table_of ws cs n).count) z in
       let e : (table_of ws cs i).count ≡ (t i).count
-      = ap (λ (c : Cell). c.count) (held.slots i (omega arith) ∙ back_turned_still m s k t h o w i (omega arith)) in
-      omega (arith, q, e, liftable_at t up h i (omega arith) (omega (arith, r)) (omega (arith, r)))
+      = ap (λ (c : Cell). c.count) (held.slots i (omega arith) ∙ back_turned_still m s k t q.0 q.1 w i (omega arith)) in
+      omega (arith, y, e, liftable_at t q.2 q.0 i (omega arith) (omega (arith, r)) (omega (arith, r)))
 
 -- the counts of a store's run stay within 16 bits
-module _ (m s k : ℕ) (t : Table) (h : s < m) (o : k < m) (most : m ≤ 32768) (near : any_far m s t k ≡ false) where
+module _ (m s k : ℕ) (t : Table) (q : (s < m) × (k < m) × (any_far m s t k ≡ false)) (most : m ≤ 32768) where
   near_slot : (i : ℕ) → i < m → rank m s i < k → (t i).count < 65535
   near_slot i l r =
-      let e : (t (onward m s (rank m s i))).count ≡ (t i).count = ap (λ (q : ℕ). (t q).count) (onward_rank h l) in
-      omega (arith, e, near_at m s t k near (rank m s i) r)
+      let e : (t (onward m s (rank m s i))).count ≡ (t i).count = ap (λ (n : ℕ). (t n).count) (onward_rank q.0 l) in
+      omega (arith, e, near_at m s t k q.2 (rank m s i) r)
 
   pub small_within : s + k < m → (i : ℕ) → s ≤ i → i < s + k → (t i).count < 65535
   small_within w i a b = near_slot i (omega arith) (omega (arith, rank_ahead {m = m} {s = s} {i = i} a (omega arith)))
 
   pub small_first : m ≤ s + k → (i : ℕ) → 0 ≤ i → i < s + k - m → (t i).count < 65535
-  small_first w i a b = near_slot i (omega arith) (omega (arith, rank_behind {m = m} {s = s} {i = i} (omega arith) h))
+  small_first w i a b = near_slot i (omega arith) (omega (arith, rank_behind {m = m} {s = s} {i = i} (omega arith) q.0))
 
   pub small_last : m ≤ s + k → {ws cs : List ℕ} → Holds m (lifted 0 (s + k - m) t) ws cs → get_or cs (m - 1) 0 < 65535
   small_last w {ws} {cs} held =
@@ -426,33 +424,21 @@ module _ (m s k : ℕ) (t : Table) (h : s < m) (o : k < m) (most : m ≤ 32768) 
 
   pub small_rest : m ≤ s + k → {ws cs : List ℕ} → Holds m (turned_once m (s + k - m) t) ws cs → (i : ℕ) → s ≤ i → i < m - 1 → get_or cs i 0 < 65535
   small_rest w {ws} {cs} held i a b =
-      let e : (table_of ws cs i).count ≡ (t i).count = ap (λ (c : Cell). c.count) (held.slots i (omega arith) ∙ turned_still m s k t h o w i a) in
+      let e : (table_of ws cs i).count ≡ (t i).count = ap (λ (c : Cell). c.count) (held.slots i (omega arith) ∙ turned_still m s k t q.0 q.1 w i a) in
       omega (arith, e, near_slot i (omega arith) (omega (arith, rank_ahead {m = m} {s = s} {i = i} a (omega arith))))
 
 -- the three parts of a shift around the end, with the lists in between
 pub turn_holds : {m : ℕ} (e : ℕ) (t : Table) {ws cs us ds : List ℕ} → 0 < m → Holds m (lifted 0 e t) ws cs
-    → (us ≡ set (set ws (2 * 0) (get_or ws (2 * (m - 1)) 0)) (2 * 0 + 1) (get_or ws (2 * (m - 1) + 1) 0)) × (ds ≡ set cs 0 (get_or cs (m - 1) 0 + 1))
+    → us ≡ set (set ws (2 * 0) (get_or ws (2 * (m - 1)) 0)) (2 * 0 + 1) (get_or ws (2 * (m - 1) + 1) 0) → ds ≡ set cs 0 (get_or cs (m - 1) 0 + 1)
     → Holds m (turned_once m e t) us ds
 unfolding turned_once
-turn_holds {m} e t z h q = rw (q.0, q.1) (move_on_holds (m - 1) 0 (omega arith) z h)
-
-pub lift_again : {m : ℕ} (a b : ℕ) {t u : Table} {ws cs us ds : List ℕ} → Holds m u ws cs → Holds m (lifted a b (table_of ws cs)) us ds → b < m
-    → ((i : ℕ) → i < m → lifted a b u i ≡ t i) → Holds m t us ds
-lift_again {m} a b {t} {u} {ws} {cs} h l o e = holds_as l (λ i k. part i k (dec_lt a i) (dec_le i b) ∙ e i k)
-  where
-    part : (i : ℕ) → i < m → Dec (a < i) → Dec (i ≤ b) → lifted a b (table_of ws cs) i ≡ lifted a b u i
-    part i k (no n) d = lift_before a b (table_of ws cs) i (omega arith) ∙ h.slots i k ∙ sym (lift_before a b u i (omega arith))
-    part i k (yes n) (no d) = lift_beyond a b (table_of ws cs) i (omega arith) ∙ h.slots i k ∙ sym (lift_beyond a b u i (omega arith))
-    part i k (yes n) (yes d) = lift_moved a b (table_of ws cs) i n d ∙ ap raised (h.slots (i - 1) (omega arith)) ∙ sym (lift_moved a b u i n d)
+turn_holds {m} e t z h p q = rw (p, q) (move_holds (λ c. c + 1) (m - 1) 0 (omega arith) z h)
 
 -- a run's last slot written, with the lists it is written to
-pub opened : {m : ℕ} (s k p x v : ℕ) (t : Table) {ws cs us ds : List ℕ} → s < m → Holds m (shifted_on m s k t) ws cs
-    → (us ≡ set (set ws (2 * s) x) (2 * s + 1) v) × (ds ≡ set cs s p) → Holds m (stored m s k (record { count = p; identifier = x; entry = v }) t) us ds
-opened {m} s k p x v t h held e =
-    let c : Cell = record { count = p; identifier = x; entry = v } in
-    rw (e.0, e.1) (holds_as (put_holds s c h held) (opens m s k c t h))
+pub opened : {m : ℕ} (s k p x v : ℕ) (t : Table) {ws cs us ds : List ℕ} → s < m → Holds m (shifted_on m s k t) ws cs → us ≡ set (set ws (2 * s) x) (2 * s + 1) v
+    → ds ≡ set cs s p → Holds m (stored m s k (cell_of p x v) t) us ds
+opened {m} s k p x v t h held e f = rw (e, f) (holds_as (put_holds s (cell_of p x v) h held) (opens m s k (cell_of p x v) t h))
 
-pub closed : {m j : ℕ} (s k : ℕ) (t : Table) {ws cs us ds : List ℕ} → s < m → k < m → (j ≡ onward m s k) × Holds m (shifted_back m s k t) ws cs
-    → (us ≡ set (set ws (2 * j) 0) (2 * j + 1) 0) × (ds ≡ set cs j 0) → Holds m (removed m s k t) us ds
-closed {m} {j} s k t h o q e =
-    rw (e.0, e.1, q.0) (holds_as (put_holds (onward m s k) empty (onward_in k h) q.1) (closes m s k t h o))
+pub closed : {m j : ℕ} (s k : ℕ) (t : Table) {ws cs us ds : List ℕ} → s < m → k < m → j ≡ onward m s k → Holds m (shifted_back m s k t) ws cs
+    → us ≡ set (set ws (2 * j) 0) (2 * j + 1) 0 → ds ≡ set cs j 0 → Holds m (removed m s k t) us ds
+closed {m} {j} s k t h o q held e f = rw (e, f, q) (holds_as (put_holds (onward m s k) empty (onward_in k h) held) (closes m s k t h o))

@@ -2,7 +2,19 @@
 use Rattle.std.specs.Prelude.{ℕ, ◌*◌, cond, List, eqb}
 use Rattle.register.specs.declared.head.Head.{Head}
 use Rattle.register.specs.declared.answer.Answer.{Answer}
+use Rattle.register.specs.declared.refusal.Refusal.{Refusal}
+use Rattle.register.specs.declared.refusal.Refusal.TheVariants.{BadHead, BadLength, AlreadyNamed, Full, Absent, Damaged, BadFrame}
 use Rattle.register.specs.Head.{good_head}
+
+-- the number of a refusal, row by row of the table
+abbrev pub number_of : Refusal → ℕ
+number_of BadHead = 1
+number_of BadLength = 2
+number_of AlreadyNamed = 3
+number_of Full = 4
+number_of Absent = 5
+number_of Damaged = 6
+number_of BadFrame = 7
 
 -- an answer with all its fields
 abbrev pub answer_of : ℕ → ℕ → ℕ → ℕ → ℕ → Head → Answer

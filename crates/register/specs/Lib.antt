@@ -11,6 +11,7 @@ pub mod Clear
 pub mod Check
 pub mod Census
 -- What the contracts of private helpers cite; a reader of the calls may pass it over.
+pub mod Lent
 pub mod Private
 pub mod Runs
 pub mod Shifts

@@ -1,9 +1,12 @@
 // What comes back: one struct for every call but census, which has its own.
 ghost use Rattle.std.specs.Prelude.{◌≡◌};
-ghost use Rattle.register.specs.Answers.{refusal, done_answer, absent_answer};
+ghost use Rattle.register.specs.Answers.{number_of, refusal, done_answer, absent_answer};
+ghost use Rattle.register.specs.Census.{census_answer};
 
 use crate::head::Head;
+use crate::refusal::Refusal;
 
+// The number is a byte because C reads it: inside, a refusal is a `Refusal`, and 0 is done.
 #[repr(C)]
 #[derive(Clone, Copy)]
 pub struct Answer {
@@ -32,11 +35,7 @@ impl Answer {
     {
         Answer {
             number,
-            slot: 0,
-            entry: 0,
-            probes: 0,
-            moved: 0,
-            head,
+            ..Answer::done(head)
         }
     }
 
@@ -59,11 +58,30 @@ impl Answer {
         ensures { result ≡ absent_answer head slot p }
     {
         Answer {
-            number: 5,
             slot,
-            entry: 0,
             probes: p,
-            moved: 0,
+            ..Refusal::Absent.answer(head)
+        }
+    }
+}
+
+impl Refusal {
+    // The refusal as a call answers it: zeros, and the given head.
+    pub fn answer(self, head: Head) -> Answer
+        ensures { result ≡ refusal (number_of self) head }
+    {
+        Answer::refused(u8::from(self), head)
+    }
+
+    // The same for census.
+    pub fn census(self, head: Head) -> Census
+        ensures { result ≡ census_answer (number_of self) 0 0 0 head }
+    {
+        Census {
+            number: u8::from(self),
+            greatest: 0,
+            stored: 0,
+            absent: 0,
             head,
         }
     }

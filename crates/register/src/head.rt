@@ -1,4 +1,4 @@
-// The head of a register: slot count, home rule, salt, live count. Passed and returned by value; any values may come in.
+// The head of a register: slot count, home rule, salt, live count. Passed and returned by value; any values may come in, so that the rule is a byte: C may pass one that is no rule, and it is refused by its value.
 ghost use Rattle.std.specs.Prelude.{◌≡◌};
 ghost use Rattle.register.specs.Head.{good_head, most_live_of, head_of};
 
@@ -49,24 +49,16 @@ impl Head {
     pub fn most_live(self) -> usize
         ensures { result ≡ most_live_of self }
     {
-        if self.slots == 0 { 0 } else { self.slots - 1 }
+        self.slots.saturating_sub(1)
     }
 
+    #[tactic(auto, unfolding(crate::specs::Head::good_head))]
     pub fn is_good(self) -> bool
         ensures { result ≡ good_head self }
     {
-        if self.slots < Head::LEAST {
-            return false;
-        }
-        if Head::MOST < self.slots {
-            return false;
-        }
-        if Head::HASHED < self.rule {
-            return false;
-        }
-        if self.most_live() < self.live {
-            return false;
-        }
-        true
+        Head::LEAST <= self.slots
+            && self.slots <= Head::MOST
+            && self.rule <= Head::HASHED
+            && self.live <= self.most_live()
     }
 }

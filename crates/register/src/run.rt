@@ -1,55 +1,45 @@
-// How far a change reaches, known before anything is written; counts alone are read.
+// How far a change reaches, known before anything is written; counts alone are read. As in the walk, the slot goes on beside k.
+// They are no twins: a store's run also stops at a record that may not move.
 ghost use Rattle.std.specs.Prelude.{◌≡◌, ◌<◌};
 ghost use Rattle.arrangement.specs.Changes.{first_settled};
-ghost use Rattle.register.specs.Slices.{table_of};
-ghost use Rattle.register.specs.Private.{Lent, first_of};
+ghost use Rattle.register.specs.Private.{table_in, first_of};
 ghost use Rattle.register.specs.Runs.{store_reach};
 
-use crate::slot::{next, wide};
+use crate::table::Opened;
 
-// How many slots after s a run ends.
-#[derive(Clone, Copy)]
-pub enum Reach {
-    After(usize),
-    Nowhere,
-}
-
-// To the first empty slot from s on, if every record before it may move one slot on.
-pub fn reach_empty(words: &[u64], counts: &[u16], m: usize, s: usize) -> Reach
-    requires { Lent m words.now counts.now × (s < m) }
-    ensures { first_of result ≡ store_reach m s (table_of words.now counts.now) }
-{
-    let most = m - 1;
-    let mut i = s;
-    let mut k: usize = 0;
-    while k < m {
-        let c = wide(counts[i]);
-        if c == 0 {
-            return Reach::After(k);
+impl Opened<'_> {
+    // How many slots after s the first empty slot from s on lies, if every record before it may move one slot on.
+    pub fn reach_empty(&self, s: usize) -> Option<usize>
+        requires { s < self.now.head.slots }
+        ensures { first_of result ≡ store_reach self.now.head.slots s (table_in self.now) }
+    {
+        let m = self.head.slots;
+        let mut i = s;
+        for k in 0..m {
+            let c = self.count(i);
+            if c == 0 {
+                return Some(k);
+            }
+            if m - 1 <= c {
+                return None;
+            }
+            i = self.next(i);
         }
-        if most <= c {
-            return Reach::Nowhere;
-        }
-        i = next(m, i);
-        k += 1;
+        None
     }
-    Reach::Nowhere
-}
 
-// To the first of the slots that follow s whose count is 0 or 1.
-pub fn reach_settled(words: &[u64], counts: &[u16], m: usize, s: usize) -> Reach
-    requires { Lent m words.now counts.now × (s < m) }
-    ensures { first_of result ≡ first_settled m s (table_of words.now counts.now) }
-{
-    let mut i = next(m, s);
-    let mut k: usize = 1;
-    while k < m {
-        let c = wide(counts[i]);
-        if c <= 1 {
-            return Reach::After(k);
+    // How many slots after s the first of the slots that follow it lies whose count is 0 or 1.
+    pub fn reach_settled(&self, s: usize) -> Option<usize>
+        requires { s < self.now.head.slots }
+        ensures { first_of result ≡ first_settled self.now.head.slots s (table_in self.now) }
+    {
+        let mut i = self.next(s);
+        for k in 1..self.head.slots {
+            if self.count(i) <= 1 {
+                return Some(k);
+            }
+            i = self.next(i);
         }
-        i = next(m, i);
-        k += 1;
+        None
     }
-    Reach::Nowhere
 }

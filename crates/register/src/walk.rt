@@ -1,60 +1,50 @@
 // The walk for an identifier from its home.
-ghost use Rattle.std.specs.Prelude.{◌≡◌, ◌+◌, ◌*◌, ◌<◌, length};
+ghost use Rattle.std.specs.Prelude.{◌≡◌, ◌<◌};
 ghost use Rattle.arrangement.specs.Walk.{turn as turn_at, walk as walk_at};
-ghost use Rattle.register.specs.Slices.{table_of};
-ghost use Rattle.register.specs.Private.{Lent, turn_of, end_of};
+ghost use Rattle.register.specs.Private.{table_in, turn_of, end_of};
 
-use crate::slot::{next, wide};
+use crate::table::Opened;
+use std::cmp::Ordering;
 
-// What the walk does at one slot.
-#[derive(Clone, Copy)]
-pub enum Turn {
-    Hit,
-    Miss,
-    On,
-}
-
-// Where the walk ends: a slot and its p.
-#[derive(Clone, Copy)]
+// Where the walk ends: a slot and its p. Three arms with places, neither Option's shape nor Result's.
+#[derive(Clone, Copy, Debug, PartialEq, Eq)]
 pub enum End {
     Found(usize, usize),
     Absent(usize, usize),
     Endless,
 }
 
-// A count decides alone unless it equals p; only then is the identifier read.
-pub fn look(words: &[u64], counts: &[u16], i: usize, p: usize, x: u64) -> Turn
-    requires { (i < length counts.now) × (2 * i + 1 < length words.now) }
-    ensures { turn_of result ≡ turn_at p x (table_of words.now counts.now i) }
-{
-    let c = wide(counts[i]);
-    if c < p {
-        return Turn::Miss;
-    }
-    if p < c {
-        return Turn::On;
-    }
-    let y = words[2 * i];
-    if y == x {
-        return Turn::Hit;
-    }
-    if x < y { Turn::Miss } else { Turn::On }
-}
-
-pub fn walk(words: &[u64], counts: &[u16], m: usize, home: usize, x: u64) -> End
-    requires { Lent m words.now counts.now × (home < m) }
-    ensures { end_of result ≡ walk_at m home x (table_of words.now counts.now) }
-{
-    let mut i = home;
-    let mut p: usize = 1;
-    while p <= m {
-        match look(words, counts, i, p, x) {
-            Turn::Hit => return End::Found(i, p),
-            Turn::Miss => return End::Absent(i, p),
-            Turn::On => {}
+impl Opened<'_> {
+    // Where x at p stands to slot i's record: at it, before it, or behind it. A count decides alone unless it equals p; only then is the identifier read.
+    #[tactic(auto, unfolding(arrangement::specs::Walk::turn))]
+    pub fn look(&self, i: usize, p: usize, x: u64) -> Ordering
+        requires { i < self.now.head.slots }
+        ensures { turn_of result ≡ turn_at p x (table_in self.now i) }
+    {
+        // By tests and not by the counts' `cmp`: with that the walk of a nearly full table took a fifth to a half longer.
+        let c = self.count(i);
+        if c < p {
+            Ordering::Less
+        } else if p < c {
+            Ordering::Greater
+        } else {
+            x.cmp(&self.identifier(i))
         }
-        i = next(m, i);
-        p += 1;
     }
-    End::Endless
+
+    pub fn walk(&self, home: usize, x: u64) -> End
+        requires { home < self.now.head.slots }
+        ensures { end_of result ≡ walk_at self.now.head.slots home x (table_in self.now) }
+    {
+        // The slot goes on beside p: reckoned from the home at each p, it made a nearly full table's walk up to a third slower.
+        let mut i = home;
+        for p in 1..self.head.slots + 1 {
+            match self.look(i, p, x) {
+                Ordering::Equal => return End::Found(i, p),
+                Ordering::Less => return End::Absent(i, p),
+                Ordering::Greater => i = self.next(i),
+            }
+        }
+        End::Endless
+    }
 }
