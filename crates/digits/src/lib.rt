@@ -8,7 +8,7 @@ ghost use Rattle.digits.specs.Digits.{number_from, field_of, digits_of, write_of
 
 use digit::{digit, worth};
 
-// The number of the digits of a part.
+// The number of the digits of a part. std's `from_str_radix` takes capital letters and a sign too.
 #[tactic(auto, using(crate::proofs::Reading::byte_read), unfolding(crate::specs::Digits::number_from))]
 fn number(part: &[u8]) -> Option<u64>
     requires { length part.now ≤ 16 }
@@ -21,7 +21,7 @@ fn number(part: &[u8]) -> Option<u64>
     Some(n)
 }
 
-// The number of the field of width digits from a place of a line on.
+// The number of the field of width digits from a place of a line on: `field_of` speaks of the place, and so does the call.
 #[tactic(auto, unfolding(crate::specs::Digits::field_of))]
 pub fn read(line: &[u8], at: usize, width: usize) -> Option<u64>
     ensures { result ≡ field_of line.now at width }
@@ -33,7 +33,7 @@ pub fn read(line: &[u8], at: usize, width: usize) -> Option<u64>
     number(line.get(at..end)?)
 }
 
-// A part filled with the last digits of a number.
+// A part filled with the last digits of a number, by index: what is written through `iter_mut` is not known to a proof.
 #[tactic(auto, using(crate::proofs::Filling::fill_step), unfolding(crate::specs::Digits::digits_of))]
 fn fill(part: &mut [u8], number: u64)
     ensures { part.new ≡ digits_of (length part.old) number }

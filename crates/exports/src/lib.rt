@@ -1,4 +1,4 @@
-// The calls for C and Rust, which need a function each, by its name. Each is total, and its statement is the library's own.
+// The calls for C and Rust, which need a function each, by its name, and pass the head and the two slices side by side. Each is total, and its statement is the library's own.
 #![tactic(auto)]
 
 ghost use Rattle.std.specs.Prelude.{◌≡◌};

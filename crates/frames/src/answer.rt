@@ -5,6 +5,7 @@ ghost use Rattle.frames.specs.Printing.{print_of};
 use register::Answer;
 
 // The answer's line at the start of a lent buffer, if the buffer has room for it. A usize has no `From` to u64, hence each `as`.
+// It is no `Display`: what a clause knows of printed text is said of no place in a buffer.
 #[tactic(auto, using(crate::proofs::Buffers::six_fields), unfolding(crate::specs::Printing::print_of))]
 pub fn print(answer: Answer, buffer: &mut [u8])
     ensures { buffer.new ≡ print_of answer buffer.old }

@@ -1,4 +1,4 @@
-// A call, as a line asks for it.
+// A call, as a line asks for it. The rule is any byte: one that is no rule is answered 1 by the register.
 #[derive(Clone, Copy, Debug, PartialEq, Eq)]
 pub enum Frame {
     Clear { slots: usize, rule: u8, salt: u64 },

@@ -26,7 +26,7 @@ fn pair(line: &[u8]) -> Option<(u64, u64)>
     Some((digits::read(line, 3, 16)?, digits::read(line, 20, 16)?))
 }
 
-// A clear's frame. Four digits fit a usize and two a u8, so that `as` loses nothing.
+// A clear's frame. Four digits fit a usize and two a u8: the `Result` of `try_from` would always be `Ok`, hence each `as`.
 #[tactic(auto, unfolding(crate::specs::Parsing::clear_frame_of), using(digits::proofs::Back::field_below))]
 fn clear_frame(line: &[u8]) -> Option<Frame>
     ensures { result ≡ clear_frame_of line.now }
@@ -41,7 +41,7 @@ fn clear_frame(line: &[u8]) -> Option<Frame>
     })
 }
 
-// The first two digits choose the call; every other code is a bad frame.
+// The first two digits choose the call, by a match, as document 01 asks; every other code is a bad frame.
 #[tactic(auto, unfolding(crate::specs::Parsing::parse_of))]
 pub fn parse(line: &[u8]) -> Option<Frame>
     ensures { result ≡ parse_of line.now }

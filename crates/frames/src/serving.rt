@@ -9,7 +9,7 @@ use crate::frame::Frame;
 use crate::line::parse;
 use register::{Answer, Head, Refusal};
 
-// A frame's call on the parts that are the register's own.
+// A frame's call on the parts that are the register's own. The kinds are closed, so a match says them all.
 fn call(head: Head, words: &mut [u64], counts: &mut [u16], frame: Frame) -> Answer
     ensures { out result words.new counts.new ≡ call_of head words.old counts.old frame }
 {

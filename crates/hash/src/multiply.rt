@@ -1,4 +1,4 @@
-// The product of two 64-bit numbers modulo 2^64, built from wrapping adds.
+// The product of two 64-bit numbers modulo 2^64, built from wrapping adds, as document 01 asks: std's `wrapping_mul` is another form.
 ghost use Rattle.std.specs.Prelude.{◌≡◌, ◌*◌, ◌%◌, ◌^◌};
 
 const HALF: u64 = 0x1_0000_0000;

@@ -9,7 +9,7 @@ use register::Head;
 use std::io::{self, Read, Write};
 use std::ops::ControlFlow;
 
-// What is held from read to read: the register with its room, and the line in hand.
+// What is held from read to read: the register with its room, in two arrays as the calls take it, and the line in hand.
 #[derive(Drop)]
 pub struct Session {
     head: Head,
@@ -25,7 +25,7 @@ impl Session {
         ensures line { result.line.items ≡ [] }
     {
         Session {
-            head: Head::cleared(0, 0, 0),
+            head: Head::cleared(0, Head::REMAINDER, 0),
             words: [0; 4096],
             counts: [0; 2048],
             line: ArrayVec::new(),

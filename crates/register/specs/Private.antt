@@ -42,8 +42,8 @@ pub record Leaves (r q : OpenedMut) (t : Table) : Type 0 where
   pub holds : Holds r.head.slots t q.words.now q.counts.now
 
 -- the number that an opening comes to: 0 where it does not refuse
-abbrev pub number_in : Result (Unit {0}) Refusal → ℕ
-number_in (Ok u) = 0
+abbrev pub number_in : {A : Type 0} → Result A Refusal → ℕ
+number_in (Ok a) = 0
 number_in (Err r) = number_of r
 
 -- what a call answers: a refusal's number with zeros and the given head

@@ -6,7 +6,7 @@ ghost use Rattle.register.specs.Census.{census_answer};
 use crate::head::Head;
 use crate::refusal::Refusal;
 
-// The number is a byte because C reads it: inside, a refusal is a `Refusal`, and 0 is done.
+// In both structs the number is a byte because C reads it: inside, a refusal is a `Refusal`, and 0 is done.
 #[repr(C)]
 #[derive(Clone, Copy)]
 pub struct Answer {
@@ -29,7 +29,7 @@ pub struct Census {
 }
 
 impl Answer {
-    // A refusal: zeros, and the given head.
+    // A refusal: zeros, and the given head. Any byte is taken, as it was: a `Refusal` alone would ask more of callers.
     pub fn refused(number: u8, head: Head) -> Self
         ensures { result ≡ refusal number head }
     {

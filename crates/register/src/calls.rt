@@ -41,12 +41,7 @@ pub fn clear(
 pub fn find(head: Head, words: &[u64], counts: &[u16], x: u64) -> Result<Answer, Refusal>
     ensures { answered head result ≡ find_of head words.now counts.now x }
 {
-    opening(head, words.len(), counts.len())?;
-    let opened = Opened {
-        head,
-        words,
-        counts,
-    };
+    let opened = Opened::open(head, words, counts)?;
     match opened.walk(home(&head, x), x) {
         End::Found(slot, p) => Ok(Answer {
             slot,
@@ -114,12 +109,7 @@ pub fn change(
 ) -> Result<Answer, Refusal>
     ensures { out (answered head result) words.new counts.now ≡ change_of head words.old counts.now x v }
 {
-    opening(head, words.len(), counts.len())?;
-    let opened = Opened {
-        head,
-        words: &*words,
-        counts,
-    };
+    let opened = Opened::open(head, &*words, counts)?;
     match opened.walk(home(&head, x), x) {
         End::Found(slot, p) => {
             words[2 * slot + 1] = v;
@@ -139,12 +129,7 @@ pub fn change(
 pub fn check(head: Head, words: &[u64], counts: &[u16]) -> Result<Answer, Refusal>
     ensures { answered head result ≡ check_of head words.now counts.now }
 {
-    opening(head, words.len(), counts.len())?;
-    let opened = Opened {
-        head,
-        words,
-        counts,
-    };
+    let opened = Opened::open(head, words, counts)?;
     if opened.are_slots_good() && opened.occupied() == head.live {
         Ok(Answer::done(head))
     } else {
@@ -156,12 +141,7 @@ pub fn check(head: Head, words: &[u64], counts: &[u16]) -> Result<Answer, Refusa
 pub fn census(head: Head, words: &[u64], counts: &[u16]) -> Result<Census, Refusal>
     ensures { counted head result ≡ census_of head words.now counts.now }
 {
-    opening(head, words.len(), counts.len())?;
-    let opened = Opened {
-        head,
-        words,
-        counts,
-    };
+    let opened = Opened::open(head, words, counts)?;
     let stored = opened.total();
     Ok(Census {
         number: 0,

@@ -1,7 +1,8 @@
-// The head of a register: slot count, home rule, salt, live count. Passed and returned by value; any values may come in, so that the rule is a byte: C may pass one that is no rule, and it is refused by its value.
+// The head of a register: slot count, home rule, salt, live count. Passed and returned by value; any values may come in.
 ghost use Rattle.std.specs.Prelude.{◌≡◌};
 ghost use Rattle.register.specs.Head.{good_head, most_live_of, head_of};
 
+// The rule is a byte and no enum: C may pass one that is no rule, and a bad head is refused by its values.
 #[repr(C)]
 #[derive(Clone, Copy)]
 pub struct Head {
@@ -37,12 +38,7 @@ impl Head {
     pub fn with_live(self, live: usize) -> Self
         ensures { result ≡ head_of self.slots self.rule self.salt live }
     {
-        Head {
-            slots: self.slots,
-            salt: self.salt,
-            live,
-            rule: self.rule,
-        }
+        Head { live, ..self }
     }
 
     // The greatest number of live records: one slot is always empty.

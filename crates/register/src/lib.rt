@@ -30,6 +30,8 @@ pub use answer::{Answer, Census};
 pub use head::Head;
 pub use refusal::Refusal;
 
+// A line each, since each contract is named by README, docs/STATEMENTS.md and the theorem `tight`. Head and slices, identifier and entry stand side by side as C passes them: document 01, "The register".
+
 // Both slices zeroed under new settings. The old head is only handed back when clear refuses.
 pub fn clear(
     old: Head,

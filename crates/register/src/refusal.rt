@@ -18,6 +18,7 @@ impl From<Refusal> for u8 {
     ghost from_gives = { λ r n. n ≡ number_of r };
 
     fn from(refusal: Refusal) -> u8 {
+        // A variant's number, which `as` gives and no `From`.
         refusal as u8
     }
 }

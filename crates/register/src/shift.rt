@@ -1,5 +1,6 @@
 // The two shifts: a store's run one slot on, a remove's run one slot back.
 // They are no twins: the one moves the last record first and the other the first, and the free slot lies at the other end.
+// A run is a slot and a length beside the register's slot count, so that no type of its own could hold its bounds.
 ghost use Rattle.std.specs.Prelude.{◌≡◌, false, ℕ, ◌+◌, ◌*◌, ◌-◌, ◌≤◌, ◌<◌, get_or, set};
 ghost use Rattle.arrangement.specs.Table.{onward};
 ghost use Rattle.arrangement.specs.Changes.{any_far, stored, removed};

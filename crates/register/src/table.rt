@@ -1,6 +1,7 @@
 // A register past the opening: a head and the two slices that fit it, lent to be read or to be changed.
-// Two types, since none is generic over `&` and `&mut`: what only reads is said once, of `Opened`, and `view` lends one.
-ghost use Rattle.std.specs.Prelude.{◌≡◌, ◌+◌, ◌*◌, ◌≤◌, ◌<◌, length, get_or};
+// Two types: one over `AsSlice` would repeat two bounds at each method, and `Kept`, which names the two `&mut`, could not be said of it. What only reads is said once, of `Opened`.
+// That a slot lies below the slot count is asked at each method: it is said of an index and a register at once, and so is no type's invariant.
+ghost use Rattle.std.specs.Prelude.{◌≡◌, ◌+◌, ◌*◌, ◌≤◌, ◌<◌, get_or};
 ghost use Rattle.arrangement.specs.Table.{onward as onward_of};
 ghost use Rattle.arrangement.specs.Changes.{next as next_of};
 ghost use Rattle.register.specs.Lent.{Lent};

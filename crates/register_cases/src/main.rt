@@ -44,7 +44,7 @@ struct Register<const W: usize, const M: usize> {
 impl<const W: usize, const M: usize> Register<W, M> {
     fn new() -> Self {
         Register {
-            head: Head::cleared(0, 0, 0),
+            head: Head::cleared(0, Head::REMAINDER, 0),
             words: [0; W],
             counts: [0; M],
         }
@@ -188,7 +188,7 @@ fn limit(out: &impl Print, m: usize) -> io::Result<()>
 {
     let mut words = [0u64; 65538];
     let mut counts = [0u16; 32769];
-    let old = Head::cleared(0, 0, 0).with_live(7);
+    let old = Head::cleared(0, Head::REMAINDER, 0).with_live(7);
     let a = register::clear(
         old,
         m,
