@@ -1,7 +1,8 @@
 // Input cut into lines. A line that a read leaves unfinished is kept: of a line over 36 bytes only 37, which are no frame either.
 ghost use Rattle.std.specs.Prelude.{◌≡◌, ◌++◌, [], take, replicate, OnOk};
 ghost use Rattle.frames.specs.Serving.{served, serve_of};
-ghost use Rattle.program.specs.Lines.{line_of};
+ghost use Rattle.register.specs.Head.{head_of};
+ghost use Rattle.program.specs.Lines.{joined_line};
 
 use crate::output::{CHUNK, Output};
 use arrayvec::ArrayVec;
@@ -21,7 +22,8 @@ pub struct Session {
 impl Session {
     // Before the first accepted clear the head is all zeros.
     pub fn new() -> Self
-        ensures head { (result.head.slots ≡ 0) × (result.head.live ≡ 0) }
+        ensures head { result.head ≡ head_of 0 0 0 0 }
+        ensures room { (result.words ≡ replicate 4096 0) × (result.counts ≡ replicate 2048 0) }
         ensures line { result.line.items ≡ [] }
     {
         Session {
@@ -58,7 +60,7 @@ impl Session {
 
     // The answer to a line: a part of the input, behind what is kept of the line.
     fn answer(&mut self, part: &[u8]) -> [u8; 40]
-        ensures answered { served self.new.head self.new.words self.new.counts result ≡ serve_of self.old.head self.old.words self.old.counts (line_of self.old.line.items part.now) (replicate 40 0) }
+        ensures answered { served self.new.head self.new.words self.new.counts result ≡ serve_of self.old.head self.old.words self.old.counts (joined_line self.old.line.items part.now) (replicate 40 0) }
         ensures done { self.new.line.items ≡ [] }
     {
         if self.line.is_empty() {
