@@ -6,6 +6,7 @@ ghost use Rattle.program.specs.Lines.{joined_line};
 
 use crate::output::{CHUNK, Output};
 use arrayvec::ArrayVec;
+use memchr::memchr;
 use register::Head;
 use std::io::{self, Read, Write};
 use std::ops::ControlFlow;
@@ -74,9 +75,10 @@ impl Session {
     // The whole lines of one read, answered and written; what is left is kept.
     fn feed<W: Write>(&mut self, input: &[u8], output: &mut Output<W>) -> io::Result<()> {
         let mut rest = input;
-        while let Some(end) = rest.iter().position(|&b| b == b'\n') {
-            output.put(&self.answer(&rest[..end]))?;
-            rest = &rest[end + 1..];
+        while let Some(end) = memchr(b'\n', rest) {
+            let (line, left) = rest.split_at(end);
+            output.put(&self.answer(line))?;
+            rest = &left[1..];
         }
         self.keep(rest);
         output.flush()

@@ -1,5 +1,5 @@
 -- What the private helpers' contracts cite: what an opened register holds, and the helpers' results as document 01's numbers and the arrangement's ends. Assumes nothing.
-use Rattle.std.specs.Prelude.{ℕ, ◌*◌, ◌<◌, ◌≡◌, List, length, Option, Some, None, Result, Ok, Err}
+use Rattle.std.specs.Prelude.{ℕ, ◌*◌, ◌<◌, ◌≡◌, List, length, Option, Some, None, Result, Ok, Err, ⊤}
 use Rattle.std.specs.declared.cmp.Ordering.{Ordering}
 use Rattle.std.specs.declared.cmp.Ordering.TheVariants.{Less, Equal, Greater}
 use Rattle.arrangement.specs.Table.{Table}
@@ -13,7 +13,7 @@ use Rattle.register.specs.declared.walk.End.{End}
 use Rattle.register.specs.declared.walk.End.TheVariants.{Found, Absent, Endless}
 use Rattle.register.specs.declared.table.Opened.{Opened}
 use Rattle.register.specs.declared.table.OpenedMut.{OpenedMut}
-use Rattle.register.specs.Answers.{refusal, number_of}
+use Rattle.register.specs.Answers.{refusal, done_answer, number_of}
 use Rattle.register.specs.Census.{census_answer}
 use Rattle.register.specs.Slices.{table_of}
 
@@ -50,6 +50,11 @@ number_in (Err r) = number_of r
 abbrev pub answered : Head → Result Answer Refusal → Answer
 answered h (Ok a) = a
 answered h (Err r) = refusal (number_of r) h
+
+-- what a call answers that has nothing but its number to say
+abbrev pub numbered : Head → Result ⊤ Refusal → Answer
+numbered h (Ok u) = done_answer h
+numbered h (Err r) = refusal (number_of r) h
 
 abbrev pub counted : Head → Result Census Refusal → Census
 counted h (Ok c) = c

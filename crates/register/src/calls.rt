@@ -1,6 +1,6 @@
 // Each call as a result: a refusal that carries nothing is an Err, and `?` passes it on.
 // The head and the two slices stand side by side until the opening has tested them: the C interface lends them so.
-ghost use Rattle.std.specs.Prelude.{◌≡◌};
+ghost use Rattle.std.specs.Prelude.{◌≡◌, length, replicate};
 ghost use Rattle.register.specs.Answers.{out};
 ghost use Rattle.register.specs.Clear.{clear_of};
 ghost use Rattle.register.specs.Find.{find_of};
@@ -9,7 +9,7 @@ ghost use Rattle.register.specs.Remove.{remove_of};
 ghost use Rattle.register.specs.Change.{change_of};
 ghost use Rattle.register.specs.Check.{check_of};
 ghost use Rattle.register.specs.Census.{census_of};
-ghost use Rattle.register.specs.Private.{answered, counted};
+ghost use Rattle.register.specs.Private.{answered, numbered, counted};
 ghost use Rattle.register.specs.declared.head.Head.{Head as HeadOf};
 
 use crate::answer::{Answer, Census};
@@ -19,6 +19,15 @@ use crate::opening::opening;
 use crate::refusal::Refusal;
 use crate::table::{Opened, OpenedMut};
 use crate::walk::End;
+
+// Both slices zeroed, whatever their lengths.
+fn zero(words: &mut [u64], counts: &mut [u16])
+    ensures words { words.new ≡ replicate (length words.old) 0 }
+    ensures counts { counts.new ≡ replicate (length counts.old) 0 }
+{
+    words.fill(0);
+    counts.fill(0);
+}
 
 #[tactic(auto, using(crate::proofs::Opened::refused), unfolding(crate::specs::Clear::clear_of))]
 pub fn clear(
@@ -32,8 +41,7 @@ pub fn clear(
 {
     let head = Head::cleared(slots, rule, salt);
     opening(head, words.len(), counts.len())?;
-    words.fill(0);
-    counts.fill(0);
+    zero(words, counts);
     Ok(Answer::done(head))
 }
 
@@ -126,12 +134,12 @@ pub fn change(
 }
 
 #[tactic(auto, using(crate::proofs::Opened::refused), unfolding(crate::specs::Check::check_of, crate::specs::Check::accepts))]
-pub fn check(head: Head, words: &[u64], counts: &[u16]) -> Result<Answer, Refusal>
-    ensures { answered head result ≡ check_of head words.now counts.now }
+pub fn check(head: Head, words: &[u64], counts: &[u16]) -> Result<(), Refusal>
+    ensures { numbered head result ≡ check_of head words.now counts.now }
 {
     let opened = Opened::open(head, words, counts)?;
     if opened.are_slots_good() && opened.occupied() == head.live {
-        Ok(Answer::done(head))
+        Ok(())
     } else {
         Err(Refusal::Damaged)
     }

@@ -3,7 +3,7 @@
 // That a slot lies below the slot count is asked at each method: it is said of an index and a register at once, and so is no type's invariant.
 ghost use Rattle.std.specs.Prelude.{◌≡◌, ◌+◌, ◌*◌, ◌≤◌, ◌<◌, get_or};
 ghost use Rattle.arrangement.specs.Table.{onward as onward_of};
-ghost use Rattle.arrangement.specs.Changes.{next as next_of};
+ghost use Rattle.arrangement.specs.Changes.{next as next_of, prior as prior_of};
 ghost use Rattle.register.specs.Lent.{Lent};
 
 use crate::head::Head;
@@ -55,6 +55,14 @@ impl Opened<'_> {
     {
         let j = i + 1;
         if j < self.head.slots { j } else { 0 }
+    }
+
+    // The slot before slot i, around the end by comparison. Reckoned as M-1 slots on, it made check up to a quarter slower.
+    pub fn prior(&self, i: usize) -> usize
+        requires { i < self.now.head.slots }
+        ensures { (result ≡ prior_of self.now.head.slots i) × (result < self.now.head.slots) }
+    {
+        if i == 0 { self.head.slots - 1 } else { i - 1 }
     }
 
     // The slot k slots on from slot s, around the end by comparison.

@@ -30,7 +30,7 @@ impl Opened<'_> {
         if m - 1 < c || self.onward(home(&self.head, x), c - 1) != i {
             return false;
         }
-        let b = self.onward(i, m - 1);
+        let b = self.prior(i);
         behind(self.count(b), self.identifier(b), c, x)
     }
 
