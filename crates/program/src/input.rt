@@ -43,33 +43,38 @@ impl Session {
         let _ = self.line.try_extend_from_slice(&part[..room]);
     }
 
-    // The answer to a whole line.
-    fn serve(&mut self, line: &[u8]) -> [u8; 40]
-        ensures answered { served self.new.head self.new.words self.new.counts result ≡ serve_of self.old.head self.old.words self.old.counts line.now (replicate 40 0) }
+    // The answer to a whole line, in a lent buffer.
+    fn serve(&mut self, line: &[u8], buffer: &mut [u8])
+        ensures answered { served self.new.head self.new.words self.new.counts buffer.new ≡ serve_of self.old.head self.old.words self.old.counts line.now buffer.old }
         ensures same { self.new.line ≡ self.old.line }
     {
-        let mut answer = [0; 40];
-        self.head = frames::serve(
-            self.head,
-            &mut self.words,
-            &mut self.counts,
-            line,
-            &mut answer,
-        );
-        answer
+        // Field by field: a copy of the whole head reads its padding in other parts than it was written, and waits for it.
+        let Head {
+            slots,
+            salt,
+            live,
+            rule,
+        } = frames::serve(self.head, &mut self.words, &mut self.counts, line, buffer);
+        self.head = Head {
+            slots,
+            salt,
+            live,
+            rule,
+        };
     }
 
     // The answer to a line: a part of the input, behind what is kept of the line.
-    fn answer(&mut self, part: &[u8]) -> [u8; 40]
-        ensures answered { served self.new.head self.new.words self.new.counts result ≡ serve_of self.old.head self.old.words self.old.counts (joined_line self.old.line.items part.now) (replicate 40 0) }
+    pub fn answer(&mut self, part: &[u8], buffer: &mut [u8])
+        ensures answered { served self.new.head self.new.words self.new.counts buffer.new ≡ serve_of self.old.head self.old.words self.old.counts (joined_line self.old.line.items part.now) buffer.old }
         ensures done { self.new.line.items ≡ [] }
     {
         if self.line.is_empty() {
-            return self.serve(part);
+            self.serve(part, buffer);
+            return;
         }
         self.keep(part);
         let line = self.line.take();
-        self.serve(&line)
+        self.serve(&line, buffer);
     }
 
     // The whole lines of one read, answered and written; what is left is kept.
@@ -77,7 +82,7 @@ impl Session {
         let mut rest = input;
         while let Some(end) = memchr(b'\n', rest) {
             let (line, left) = rest.split_at(end);
-            output.put(&self.answer(line))?;
+            output.put(self, line)?;
             rest = &left[1..];
         }
         self.keep(rest);
@@ -91,7 +96,7 @@ impl Session {
         if self.line.is_empty() {
             return Ok(());
         }
-        output.put(&self.answer(&[]))?;
+        output.put(self, &[])?;
         output.flush()
     }
 
